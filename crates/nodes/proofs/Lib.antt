@@ -1,0 +1,5 @@
+-- Laws of the node table.
+pub mod AmountsFound
+pub mod Laid
+pub mod PlansFound
+pub mod Signed
