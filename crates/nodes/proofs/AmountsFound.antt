@@ -1,5 +1,5 @@
 -- An amount or test that lies in the table is found there, and a walk of it stays in the table.
-use Prim.Native.Nat.{_+_, _-_, _<_, _≤_, suc, zero, ℕ}
+use Prim.Native.Nat.{_+_, _<_, _≤_, suc, zero, ℕ}
 use lib.IntN.{pos, ℤ}
 use lib.ListN.{getD}
 use mathlib.Core.List.{List, [], _∷_}
@@ -13,7 +13,7 @@ use Rattle.language.specs.Text.Reader.{Trees, end, node}
 use Rattle.language.specs.Text.Trees.{Amount, Test, choose, conjunction, difference, disjunction, equal, index, less, negation, number, product, quotient, sum}
 use Rattle.language.specs.Text.Typed.{amountTree, testTree}
 use Rattle.nodes.proofs.Laid.{Inner, IsNode, Laid, inner, laid-child, laid-slot}
-use Rattle.nodes.specs.Found.{amountAt, amountBy, testAt, testBy}
+use Rattle.nodes.specs.Found.{amountAt, testAt}
 use Rattle.nodes.specs.Letters.{amountLetter, testLetter}
 use Rattle.nodes.specs.Rows.{behindFirst, countOf, fieldSlots, lastSlots, slotsOf}
 use Rattle.nodes.specs.Stands.{AmountStands, TestStands}

@@ -6,10 +6,10 @@ use mathlib.Core.Path.{_∙_, _≡_, ap, ap₂, refl}
 use native.Mathlib.Omega.{arith}
 use Rattle.language.specs.Limits.{maxNodes}
 use Rattle.language.specs.Text.Classes.{aDelay, aNumber}
-use Rattle.language.specs.Text.Form.{delayInForm, depthOf, depthOfAmount, depthOfTest, fieldsOf, offsetInForm}
+use Rattle.language.specs.Text.Form.{delayInForm, depthOf, fieldsOf, offsetInForm}
 use Rattle.language.specs.Text.Letters.{PlanLetter, ofRoot, planForm, planRow, rowOf}
 use Rattle.language.specs.Text.Plans.{planTrees}
-use Rattle.language.specs.Text.Reader.{Trees, end, node}
+use Rattle.language.specs.Text.Reader.{Trees, end}
 use Rattle.language.specs.Text.Trees.{Amount, Delay, Plan, Test, both, later, months, nothing, scale, setting, transfer, within}
 use Rattle.language.specs.Text.Typed.{amountTree, testTree}
 use Rattle.nodes.proofs.AmountsFound.{Finds, amount-first, amount-found, byte-at, number-at, room, second-at, test-first, test-found, third-at}
@@ -18,7 +18,7 @@ use Rattle.nodes.specs.Found.{amountAt, offsetOf, planAt, testAt}
 use Rattle.nodes.specs.Letters.{planLetter}
 use Rattle.nodes.specs.Rows.{behindFirst, delayFrom, delaySlot, fieldSlots, slotsOf}
 use Rattle.nodes.specs.Stands.{AmountStands, PlanStands, TestStands}
-use Rattle.nodes.specs.Table.{linkAt, natOf, slotAt}
+use Rattle.nodes.specs.Table.{linkAt, natOf}
 
 pub plan-first : (x : Plan Delay) (r : Trees PlanLetter) → IsNode (planTrees x r) × (behindFirst (planTrees x r) ≡ r)
 unfolding planTrees behindFirst

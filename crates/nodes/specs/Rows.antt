@@ -8,7 +8,7 @@ use Rattle.language.specs.Limits.{maxSettings}
 use Rattle.language.specs.Text.Classes.{Field, aDelay, aMonth, aNumber}
 use Rattle.language.specs.Text.Letters.{Form, rowOf}
 use Rattle.language.specs.Text.Reader.{Trees, end, node}
-use Rattle.language.specs.Text.Trees.{Delay, Month, months, setting}
+use Rattle.language.specs.Text.Trees.{Delay, months, setting}
 
 -- ---- fields as numbers
 
