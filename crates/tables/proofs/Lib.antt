@@ -1,0 +1,3 @@
+-- Laws of settings and tables.
+pub mod Lists
+pub mod Spans

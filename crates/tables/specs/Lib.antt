@@ -1,0 +1,2 @@
+-- Settings and tables as calls take them.
+pub mod Given

@@ -1,0 +1,145 @@
+// Settings and tables: whether they keep the rules, and what they hold.
+ghost use mathlib.Core.Path.{_≡_};
+ghost use mathlib.Core.Bool.{Bool, _&&_};
+ghost use Prim.Native.Nat.{ℕ, _+_, _*_, _≤_};
+ghost use lib.IntN.{ℤ, pos, natAbs, negℤ};
+ghost use lib.Dec.{eqb, leb};
+ghost use lib.ListN.{length};
+ghost use Rattle.language.specs.Limits.{maxAmount, maxBack, maxLabels, maxMonths, oneFactor};
+ghost use Rattle.language.specs.Rules.Table.{allOf, monthOk, partyOk, settingsOk, tableOk, valuesBounded};
+ghost use Rattle.language.specs.Text.Number.{between};
+ghost use Rattle.tables.specs.Given.{tableOf};
+
+// The whole numbers from low to high.
+pub struct Range {
+    pub low: i64,
+    pub high: i64,
+}
+
+pub fn is_between(x: i64, range: Range) -> bool
+    ensures { λ r. ⌜ r ≡ between (range .low) (range .high) x ⌝ }
+{
+    (range.low <= x) & (x <= range.high)
+}
+
+pub fn all_between(xs: &[i64], range: Range) -> bool
+    ensures { λ r. ⌜ r ≡ allOf (between (range .low) (range .high)) (now (xs .entry)) ⌝ }
+{
+    let mut i = 0;
+    while i < xs.len() {
+        if is_between(xs[i], range) {
+            i += 1;
+        } else {
+            return false;
+        }
+    }
+    true
+}
+
+pub fn settings_ok(days: &[i64]) -> bool
+    ensures { λ r. ⌜ r ≡ settingsOk (now (days .entry)) ⌝ }
+{
+    if days.len() > 8 {
+        return false;
+    }
+    all_between(days, Range { low: 0, high: 600 })
+}
+
+pub fn party_ok(p: i64) -> bool
+    ensures { λ r. ⌜ r ≡ partyOk p ⌝ }
+{
+    is_between(p, Range { low: 1, high: 9 })
+}
+
+// A month from 0 to f.
+pub fn month_ok(f: i64, month: i64) -> bool
+    ensures { λ r. ⌜ r ≡ between (pos 0) f month ⌝ }
+{
+    is_between(month, Range { low: 0, high: f })
+}
+
+pub fn all_within(xs: &[i64], bound: u64) -> bool
+    ensures { λ r. ⌜ r ≡ allOf (λ v. leb (natAbs v) bound) (now (xs .entry)) ⌝ }
+{
+    let mut i = 0;
+    while i < xs.len() {
+        if integers::magnitude(xs[i]) <= bound {
+            i += 1;
+        } else {
+            return false;
+        }
+    }
+    true
+}
+
+// Each label's n values are no further from zero than its bound.
+pub fn values_bounded(n: usize, bounds: &[i64], values: &[i64]) -> bool
+    requires { ⌜ length (now values) ≡ length (now bounds) * n ⌝ }
+    ensures { λ r. ⌜ r ≡ valuesBounded n (now (bounds .entry)) (now (values .entry)) ⌝ }
+{
+    let mut k = 0;
+    let mut at = 0;
+    while k < bounds.len() {
+        let end = at + n;
+        if all_within(&values[at..end], integers::magnitude(bounds[k])) {
+            k += 1;
+            at = end;
+        } else {
+            return false;
+        }
+    }
+    true
+}
+
+// The months that a table covers, and how many labels it has.
+pub struct Span {
+    pub h: i64,
+    pub f: i64,
+}
+
+pub fn span_ok(span: Span) -> bool
+    ensures { λ r. ⌜ r ≡ between (pos 0) (pos maxBack) (span .h) && between (pos 0) (pos maxMonths) (span .f) ⌝ }
+{
+    is_between(span.h, Range { low: 0, high: 60 }) & is_between(span.f, Range { low: 0, high: 600 })
+}
+
+pub fn factors_ok(months: usize, factors: &[i64]) -> bool
+    ensures { λ r. ⌜ r ≡ eqb (length (now (factors .entry))) months && allOf (between (pos 0) (pos oneFactor)) (now (factors .entry)) ⌝ }
+{
+    (factors.len() == months)
+        & all_between(
+            factors,
+            Range {
+                low: 0,
+                high: 1_000_000,
+            },
+        )
+}
+
+pub fn bounds_ok(bounds: &[i64]) -> bool
+    ensures { λ r. ⌜ r ≡ leb (length (now (bounds .entry))) maxLabels && allOf (between (pos 0) (pos maxAmount)) (now (bounds .entry)) ⌝ }
+{
+    (bounds.len() <= 8)
+        & all_between(
+            bounds,
+            Range {
+                low: 0,
+                high: 9_000_000_000_000,
+            },
+        )
+}
+
+pub fn table_ok(span: Span, factors: &[i64], bounds: &[i64], values: &[i64]) -> bool
+    ensures { λ r. ⌜ r ≡ tableOk (tableOf (span .h) (span .f) (now (factors .entry)) (now (bounds .entry)) (now (values .entry))) ⌝ }
+{
+    if span_ok(span) {
+        let months = span.f as usize + 1;
+        let n = span.h as usize + months;
+        if factors_ok(months, factors) & bounds_ok(bounds) {
+            if values.len() == bounds.len() * n {
+                return values_bounded(n, bounds, values);
+            }
+        }
+    }
+    false
+}
