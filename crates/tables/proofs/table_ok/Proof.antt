@@ -9,6 +9,7 @@ use mir.Syntax.{w64}
 use mir.Val.{SFits}
 use native.Mathlib.Nat.{mul-le-mul}
 use native.Mathlib.Omega.{arith}
+use Rattle.integers.proofs.Locals.{rd}
 use Rattle.language.specs.Text.Number.{between}
 use Rattle.nodes.proofs.Signed.{index-cast}
 use Rattle.tables.proofs.Spans.{UpTo, both-true, by-values, few-labels, no-count, no-parts, no-span, up-to}
@@ -66,7 +67,7 @@ mul-if3 c =
     let h : SFits w64 (s .before .before .args .span .h) = search needs in
     let ok = sym (s .before .span-ok .ensures) ∙ s .if1 .taken in
     let e = sym (ap₂ _&&_ (c .before .before .factors-ok .ensures) (c .before .bounds-ok .ensures)) ∙ c .if2 .taken in
-    let l = few-labels (s .before .before .args .span .h) (s .before .before .args .span .f) (s .before .before .args .factors .now) (s .before .before .args .bounds .now) (s .before .before .args .values .now) _ e in
+    let l = few-labels (s .before .before .args .span .h) (s .before .before .args .span .f) (s .before .before .args .factors .now) (s .before .before .args .bounds .now) (s .before .before .args .values .now) (rd (s .before .before .args .span .f)) e in
     let m : natAbs (s .before .before .args .span .h) + (natAbs (s .before .before .args .span .f) + 1) ≤ 661 = omega (arith, f-up-to s .small, h-up-to s .small) in
     rw (toZ-ofZ f, toZ-ofZ h) (omega (arith, mul-le-mul l m))
 
