@@ -1,3 +1,4 @@
 -- Laws of settings and tables.
+pub mod Fills
 pub mod Lists
 pub mod Spans

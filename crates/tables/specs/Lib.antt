@@ -1,2 +1,3 @@
 -- Settings and tables as calls take them.
+pub mod Fill
 pub mod Given

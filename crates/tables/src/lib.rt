@@ -10,6 +10,8 @@ ghost use Rattle.language.specs.Rules.Table.{allOf, monthOk, partyOk, settingsO
 ghost use Rattle.language.specs.Text.Number.{between};
 ghost use Rattle.tables.specs.Given.{tableOf};
 
+pub mod fill;
+
 // The whole numbers from low to high.
 pub struct Range {
     pub low: i64,
