@@ -4,3 +4,4 @@ pub mod Laid
 pub mod Passes
 pub mod PlansFound
 pub mod Signed
+pub mod TreePasses

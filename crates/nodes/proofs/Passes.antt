@@ -1,9 +1,9 @@
 -- A loop over the first rows that changes each: what holds while it goes on, and at its end.
-use Prim.Native.Nat.{_*_, _+_, _-_, _<_, _≤_, suc, zero, ℕ}
-use lib.IntN.{pos, ℤ}
-use lib.ListN.{drop, getD, length, length-append, length-drop, length-take, set, take, take-append-drop}
-use lib.Seq.{drop-append-seam, drop-at, drop-drop, drop-set-add, length-take-le, set-append-left, take-at, take-set-le}
-use mathlib.Core.Bool.{Bool, _&&_, false, true}
+use Prim.Native.Nat.{_*_, _+_, _-_, _<_, _≤_, suc, ℕ}
+use lib.IntN.{ℤ}
+use lib.ListN.{drop, length, length-append, length-drop, set, take, take-append-drop}
+use lib.Seq.{drop-at, drop-drop, drop-set-add, length-take-le, set-append-left, take-at, take-set-le}
+use mathlib.Core.Bool.{Bool, false, true}
 use mathlib.Core.List.{List, _++_, append-assoc}
 use mathlib.Core.Path.{_∙_, _≡_, ap, refl, sym}
 use native.Mathlib.Omega.{arith}

@@ -18,8 +18,7 @@ use Rattle.language.specs.Rules.Table.{allOf, settingsOk}
 use Rattle.language.specs.Text.Number.{between, byte}
 use Rattle.nodes.proofs.Passes.{row-kept, set-in-row}
 use Rattle.nodes.specs.Pass.{rowFrom}
-use Rattle.nodes.specs.Rows.{delayFrom}
-use Rattle.tables.proofs.Spans.{both-true, up-to}
+use Rattle.tables.proofs.Spans.{both-true}
 use Rattle.tables.specs.Fill.{RowIs, SlotIs, fillDelay, fillRow, hasDelay, rowSet}
 use Rattle.tables.specs.declared.fill.Filling.{Filling}
 use Rattle.tables.specs.declared.fill.Filling.the-variants.{Filled, Unset}

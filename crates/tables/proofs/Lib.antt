@@ -1,4 +1,5 @@
 -- Laws of settings and tables.
 pub mod Fills
 pub mod Lists
+pub mod PlanFills
 pub mod Spans

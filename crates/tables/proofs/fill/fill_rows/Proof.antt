@@ -1,4 +1,4 @@
-use Prim.Native.Nat.{_-_, _≤_}
+use Prim.Native.Nat.{_-_}
 use borrow.Author.Needs.{needs}
 use mathlib.Core.Path.{_∙_, subst}
 use native.Mathlib.Omega.{arith}
@@ -11,7 +11,6 @@ use Rattle.tables.proofs.fill.fill_rows.Reads as reads
 use Rattle.tables.proofs.fill.fill_rows.Statement.{statement}
 use Rattle.tables.proofs.fill.fill_rows.Tie as tie
 use Rattle.tables.specs.Fill.{RowIs, fillRow, rowSet}
-use Rattle.tables.specs.declared.fill.Filling.the-variants.{Filled, Unset}
 
 abbrev Inv-loop : tie.InvT-loop
 Inv-loop nodes₀ count days i₀ at₀ nodes i at = Passing (fillRow days) (rowSet days) count nodes₀ i at nodes
