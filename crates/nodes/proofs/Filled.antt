@@ -10,7 +10,7 @@ use Rattle.language.specs.Text.Form.{delayInForm, depthOf, fieldsOf}
 use Rattle.language.specs.Text.Letters.{planForm}
 use Rattle.language.specs.Text.Plans.{planTrees}
 use Rattle.language.specs.Text.Reader.{end}
-use Rattle.language.specs.Text.Trees.{Amount, Delay, Plan, Test}
+use Rattle.language.specs.Text.Trees.{Amount, Plan, Test}
 use Rattle.nodes.proofs.AmountsFound.{Finds}
 use Rattle.nodes.proofs.Laid.{Laid}
 use Rattle.nodes.proofs.PlansFound.{plan-found}

@@ -3,6 +3,8 @@ pub mod AmountsFound
 pub mod Filled
 pub mod Laid
 pub mod Passes
+pub mod PayoffsFound
 pub mod PlansFound
+pub mod Settings
 pub mod Signed
 pub mod TreePasses

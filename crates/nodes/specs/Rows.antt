@@ -8,7 +8,8 @@ use Rattle.language.specs.Limits.{maxSettings}
 use Rattle.language.specs.Text.Classes.{Field, aDelay, aMonth, aNumber}
 use Rattle.language.specs.Text.Letters.{Form, rowOf}
 use Rattle.language.specs.Text.Reader.{Trees, end, node}
-use Rattle.language.specs.Text.Trees.{Delay, months, setting}
+use Rattle.language.specs.Text.Trees.{Delay, Month, months, setting}
+use Rattle.nodes.specs.Table.{natOf}
 
 -- ---- fields as numbers
 
@@ -33,6 +34,10 @@ settingsFrom (suc n) k digits = replicate (digits % 32) k ++ settingsFrom n (suc
 
 abbrev pub settingsIn : ℕ → List ℕ
 settingsIn digits = settingsFrom maxSettings 0 digits
+
+-- a month from its two numbers
+abbrev pub monthFrom : ℤ → ℤ → Month
+monthFrom plain digits = record { plain = plain; settings = settingsIn (natOf digits) }
 
 -- a month takes two numbers: the number it begins with, and its settings
 unfoldable pub fieldSlots : Field → List ℤ
