@@ -1,0 +1,110 @@
+-- What each letter shows of a plan's length, and that no length leaves the months that code adds.
+use Prim.Native.Nat.{_*_, _+_, _-_, _≤_, max, suc, zero, ℕ}
+use lib.IntN.{_+ℤ_, pos, ℤ}
+use lib.Signed.{ltZ}
+use mathlib.Core.Bool.{false, true}
+use mathlib.Core.List.{List}
+use mathlib.Core.Path.{_∙_, _≡_, ap, ap₂, refl, sym}
+use borrow.Author.Tests.{ltb-false, ltb-true}
+use mir.Facts.{toZ-ofZ}
+use mir.Syntax.{w64}
+use mir.Val.{SFits}
+use native.Mathlib.Omega.{arith}
+use Rattle.integers.proofs.Locals.{rd}
+use Rattle.integers.specs.Bounded.{Small}
+use Rattle.language.specs.Limits.{maxMonths, maxNodes}
+use Rattle.language.specs.Rules.Measures.{lengthOf}
+use Rattle.language.specs.Text.Form.{fieldsOf, filledInForm}
+use Rattle.language.specs.Text.Trees.{Amount, Plan, Test}
+use Rattle.measures.proofs.Plans.{later-ready, plan-is, within-ready}
+use Rattle.measures.specs.Ready.{PlanReady}
+use Rattle.nodes.specs.declared.PlanLetter.{PlanLetter}
+use Rattle.nodes.specs.declared.PlanLetter.the-variants.{Both, Later, NoPlan, Nothing, Scale, Transfer, Within}
+use Rattle.nodes.specs.Found.{amountAt, offsetOf, planAt, planBy, testAt}
+use Rattle.nodes.specs.Letters.{planLetter}
+use Rattle.nodes.specs.Table.{linkAt, natOf, slotAt}
+
+-- ---- the greater of two months
+
+module _ {a b : ℤ} (f : SFits w64 a) (g : SFits w64 b) {m n : ℕ} (ea : a ≡ pos m) (eb : b ≡ pos n) where
+  pub longer-second : ltZ (rd a) (rd b) ≡ true → b ≡ pos (max m n)
+  longer-second t =
+      let u : ltZ (pos m) (pos n) ≡ true = rw (toZ-ofZ f, toZ-ofZ g, ea, eb) at t in
+      let e : n ≡ max m n = omega (arith, ltb-true m n u) in
+      eb ∙ ap pos e
+
+  pub longer-first : ltZ (rd a) (rd b) ≡ false → a ≡ pos (max m n)
+  longer-first t =
+      let u : ltZ (pos m) (pos n) ≡ false = rw (toZ-ofZ f, toZ-ofZ g, ea, eb) at t in
+      let e : m ≡ max m n = omega (arith, ltb-false m n u) in
+      ea ∙ ap pos e
+
+-- ---- bounds
+
+length-of : (l : PlanLetter) (d : ℕ) (p q : ℤ) (a : Amount ℤ) (t : Test ℤ) (x y z : Plan ℕ) (n : ℕ)
+    → (fieldsOf filledInForm x → lengthOf x ≤ n) → (fieldsOf filledInForm y → lengthOf y ≤ n) → (fieldsOf filledInForm z → lengthOf z ≤ n)
+    → fieldsOf filledInForm (planBy l d p q a t x y z) → lengthOf (planBy l d p q a t x y z) ≤ maxMonths + n
+unfolding lengthOf fieldsOf
+length-of Nothing d p q a t x y z n hx hy hz f = omega arith
+length-of Transfer d p q a t x y z n hx hy hz f = omega arith
+length-of Scale d p q a t x y z n hx hy hz f = omega (arith, hy (f .1))
+length-of Later d p q a t x y z n hx hy hz f = omega (arith, hx (f .1), f .0)
+length-of Both d p q a t x y z n hx hy hz f = omega (arith, hx (f .0), hy (f .1))
+length-of Within d p q a t x y z n hx hy hz f = omega (arith, hy (f .2), hz (f .3), f .0)
+length-of NoPlan d p q a t x y z n hx hy hz f = omega arith
+
+length-at : (left : ℕ) (nodes : List ℤ) (at : ℕ) → fieldsOf filledInForm (planAt natOf left nodes at) → lengthOf (planAt natOf left nodes at) ≤ maxMonths * left
+unfolding planAt lengthOf
+length-at zero nodes at f = omega arith
+length-at (suc left) nodes at f =
+    let b = length-of (planLetter (slotAt nodes at 0)) (natOf (slotAt nodes at 1)) (slotAt nodes at 1) (slotAt nodes at 2)
+    (amountAt offsetOf maxNodes nodes (at + 1)) (testAt offsetOf maxNodes nodes (at + 1))
+    (planAt natOf left nodes (at + 1)) (planAt natOf left nodes (linkAt nodes at 3)) (planAt natOf left nodes (linkAt nodes at 4)) (maxMonths * left)
+    (length-at left nodes (at + 1)) (length-at left nodes (linkAt nodes at 3)) (length-at left nodes (linkAt nodes at 4)) f in
+    omega arith
+
+pub length-bound : {left at : ℕ} {nodes : List ℤ} → PlanReady left nodes at → lengthOf (planAt natOf left nodes at) ≤ 20_000
+length-bound {left} {at} {nodes} h = omega (arith, length-at left nodes at (h .fields), h .depth)
+
+-- a month of this size can be added
+pub few : {z : ℤ} {n : ℕ} → z ≡ pos n → n ≤ 1_000_000 → Small z
+few e b = rw e (record { small = omega arith })
+
+-- ---- the letters
+
+module _ {left at : ℕ} {nodes : List ℤ} (h : PlanReady left nodes at) {l : PlanLetter} (e : l ≡ planLetter (slotAt nodes at 0)) where
+  abbrev whole : ℤ
+  whole = pos (lengthOf (planAt natOf left nodes at))
+
+  abbrev part : ℕ → ℤ
+  part p = pos (lengthOf (planAt natOf (left - 1) nodes p))
+
+  pub nothing-length : l ≡ Nothing → pos 0 ≡ whole
+  unfolding lengthOf
+  nothing-length t = rw (plan-is h e t)
+
+  pub transfer-length : l ≡ Transfer → pos 0 ≡ whole
+  unfolding lengthOf
+  transfer-length t = rw (plan-is h e t)
+
+  pub no-plan-length : l ≡ NoPlan → pos 0 ≡ whole
+  unfolding lengthOf
+  no-plan-length t = rw (plan-is h e t)
+
+  pub scale-length : l ≡ Scale → {p : ℕ} → p ≡ linkAt nodes at 3 → {x : ℤ} → x ≡ part p → x ≡ whole
+  unfolding lengthOf
+  scale-length t ep ex = rw (plan-is h e t, ← ep) ex
+
+  pub later-length : l ≡ Later → {d x r : ℤ} → d ≡ pos (natOf (slotAt nodes at 1)) → x ≡ part (at + 1) → r ≡ d +ℤ x → r ≡ whole
+  unfolding lengthOf
+  later-length t ed ex er = rw (plan-is h e t) (er ∙ ap₂ _+ℤ_ ed ex)
+
+  pub both-length : l ≡ Both → {p : ℕ} → p ≡ linkAt nodes at 3 → {r : ℤ}
+      → r ≡ pos (max (lengthOf (planAt natOf (left - 1) nodes (at + 1))) (lengthOf (planAt natOf (left - 1) nodes p))) → r ≡ whole
+  unfolding lengthOf
+  both-length t ep er = rw (plan-is h e t, ← ep) er
+
+  pub within-length : l ≡ Within → {p q : ℕ} → p ≡ linkAt nodes at 3 → q ≡ linkAt nodes at 4 → {d x r : ℤ} → d ≡ pos (natOf (slotAt nodes at 1))
+      → x ≡ pos (max (lengthOf (planAt natOf (left - 1) nodes p)) (lengthOf (planAt natOf (left - 1) nodes q))) → r ≡ d +ℤ x → r ≡ whole
+  unfolding lengthOf
+  within-length t ep eq ed ex er = rw (plan-is h e t, ← ep, ← eq) (er ∙ ap₂ _+ℤ_ ed ex)

@@ -1,0 +1,103 @@
+-- A plan that can be walked: the plan at a node by its letter, and its parts can be walked too.
+use Prim.Native.Nat.{_+_, _-_, _<_, _≤_, suc, zero, ℕ}
+use lib.IntN.{ℤ}
+use mathlib.Core.List.{List}
+use mathlib.Core.Path.{_∙_, _≡_, refl, subst, sym}
+use native.Mathlib.Omega.{arith}
+use Rattle.language.specs.Limits.{maxDepth, maxMonths, maxNodes}
+use Rattle.language.specs.Text.Form.{fieldsOf, filledInForm}
+use Rattle.language.specs.Text.Trees.{Plan}
+use Rattle.measures.specs.Ready.{AmountReady, PlanReady, TestReady}
+use Rattle.nodes.specs.declared.PlanLetter.{PlanLetter}
+use Rattle.nodes.specs.declared.PlanLetter.the-variants.{Both, Later, Scale, Within}
+use Rattle.nodes.specs.Found.{amountAt, offsetOf, planAt, planBy, testAt}
+use Rattle.nodes.specs.Letters.{planLetter}
+use Rattle.nodes.specs.Stands.{AmountStands, Forward, PlanStands, TestStands, planAsks}
+use Rattle.nodes.specs.Table.{linkAt, natOf, slotAt}
+
+-- the plan at a node with letter m, its parts one level down
+abbrev planHere : PlanLetter → ℕ → List ℤ → ℕ → Plan ℕ
+planHere m left nodes at =
+    planBy m (natOf (slotAt nodes at 1)) (slotAt nodes at 1) (slotAt nodes at 2)
+    (amountAt offsetOf maxNodes nodes (at + 1))
+    (testAt offsetOf maxNodes nodes (at + 1))
+    (planAt natOf left nodes (at + 1))
+    (planAt natOf left nodes (linkAt nodes at 3))
+    (planAt natOf left nodes (linkAt nodes at 4))
+
+abbrev asksHere : PlanLetter → ℕ → List ℤ → ℕ → Type 0
+asksHere m left nodes at =
+    planAsks m (AmountStands maxNodes nodes (at + 1)) (TestStands maxNodes nodes (at + 1)) (PlanStands left nodes (at + 1))
+    (Forward nodes at 3 × PlanStands left nodes (linkAt nodes at 3))
+    (Forward nodes at 4 × PlanStands left nodes (linkAt nodes at 4))
+
+one-less : (left : ℕ) → suc left - 1 ≡ left
+one-less left = omega arith
+
+step : (left : ℕ) (nodes : List ℤ) (at : ℕ) → PlanStands left nodes at → planAt natOf left nodes at ≡ planHere (planLetter (slotAt nodes at 0)) (left - 1) nodes at
+unfolding planAt PlanStands
+step zero nodes at s = absurd s
+step (suc left) nodes at s = rw (one-less left)
+
+asks : (left : ℕ) (nodes : List ℤ) (at : ℕ) → PlanStands left nodes at → (0 < left) × (at < maxNodes) × asksHere (planLetter (slotAt nodes at 0)) (left - 1) nodes at
+unfolding PlanStands
+asks zero nodes at s = absurd s
+asks (suc left) nodes at s = rw (one-less left) (omega arith, s .0, s .1)
+
+module _ {left at : ℕ} {nodes : List ℤ} (h : PlanReady left nodes at) where
+  pub plan-some : 0 < left
+  plan-some = asks left nodes at (h .stands) .0
+
+  pub plan-room : at < maxNodes
+  plan-room = asks left nodes at (h .stands) .1
+
+  shallow : left - 1 ≤ maxDepth
+  shallow = omega (arith, h .depth)
+
+  -- l is the node's letter, m its name
+  module _ {l m : PlanLetter} (e : l ≡ planLetter (slotAt nodes at 0)) (t : l ≡ m) where
+    named : planLetter (slotAt nodes at 0) ≡ m
+    named = sym e ∙ t
+
+    pub plan-is : planAt natOf left nodes at ≡ planHere m (left - 1) nodes at
+    plan-is = step left nodes at (h .stands) ∙ rw named refl
+
+    asked : asksHere m (left - 1) nodes at
+    asked = subst (λ k. asksHere k (left - 1) nodes at) named (asks left nodes at (h .stands) .2)
+
+    filled : fieldsOf filledInForm (planHere m (left - 1) nodes at)
+    filled = subst (fieldsOf filledInForm) plan-is (h .fields)
+
+  module _ {l : PlanLetter} (e : l ≡ planLetter (slotAt nodes at 0)) where
+    pub scale-ready : l ≡ Scale → AmountReady maxNodes nodes (at + 1) × Forward nodes at 3 × PlanReady (left - 1) nodes (linkAt nodes at 3)
+    unfolding fieldsOf
+    scale-ready t =
+        let a = asked e t in
+        let f = filled e t in
+        (record { stands = a .0; fields = f .0 }, a .1 .0, record { depth = shallow; stands = a .1 .1; fields = f .1 })
+
+    pub later-ready : l ≡ Later → (natOf (slotAt nodes at 1) ≤ maxMonths) × PlanReady (left - 1) nodes (at + 1)
+    unfolding fieldsOf
+    later-ready t =
+        let a = asked e t in
+        let f = filled e t in
+        (f .0, record { depth = shallow; stands = a; fields = f .1 })
+
+    pub both-ready : l ≡ Both → PlanReady (left - 1) nodes (at + 1) × Forward nodes at 3 × PlanReady (left - 1) nodes (linkAt nodes at 3)
+    unfolding fieldsOf
+    both-ready t =
+        let a = asked e t in
+        let f = filled e t in
+        (record { depth = shallow; stands = a .0; fields = f .0 }, a .1 .0, record { depth = shallow; stands = a .1 .1; fields = f .1 })
+
+    pub within-ready : l ≡ Within → (natOf (slotAt nodes at 1) ≤ maxMonths) × TestReady maxNodes nodes (at + 1)
+        × (Forward nodes at 3 × PlanReady (left - 1) nodes (linkAt nodes at 3)) × (Forward nodes at 4 × PlanReady (left - 1) nodes (linkAt nodes at 4))
+    unfolding fieldsOf
+    within-ready t =
+        let a = asked e t in
+        let f = filled e t in (
+          f .0,
+          record { stands = a .0; fields = f .1 },
+          (a .1 .0, record { depth = shallow; stands = a .1 .1; fields = f .2 }),
+          (a .2 .0, record { depth = shallow; stands = a .2 .1; fields = f .3 }),
+        )

@@ -1,0 +1,5 @@
+-- What a walk of a filled plan may rely on, and how its answers stand for document 01's.
+pub mod Magnitudes
+pub mod Ready
+pub mod Spans
+pub mod Timing

@@ -1,0 +1,8 @@
+// The measures of a filled plan in the node table: length, first and latest, reads, magnitude.
+pub mod first;
+pub mod latest;
+pub mod length;
+pub mod limit;
+pub mod magnitude;
+pub mod node;
+pub mod reads;

@@ -1,0 +1,63 @@
+// A node's letter and fields.
+ghost use mathlib.Core.Path.{_≡_};
+ghost use Prim.Native.Nat.{_<_};
+ghost use lib.IntN.{pos};
+ghost use Rattle.nodes.specs.Letters.{planLetter, amountLetter, testLetter};
+ghost use Rattle.nodes.specs.Table.{slotAt, natOf};
+use integers::Month;
+use nodes::AmountLetter;
+use nodes::PlanLetter;
+use nodes::TestLetter;
+
+pub fn plan_kind(nodes: &[i64; 2560], at: usize) -> PlanLetter
+    requires { ⌜ at < 512 ⌝ }
+    ensures { λ r. ⌜ r ≡ planLetter (slotAt (now (nodes .entry)) at 0) ⌝ }
+{
+    nodes::plan_letter(nodes::slot(nodes, at, 0))
+}
+
+pub fn amount_kind(nodes: &[i64; 2560], at: usize) -> AmountLetter
+    requires { ⌜ at < 512 ⌝ }
+    ensures { λ r. ⌜ r ≡ amountLetter (slotAt (now (nodes .entry)) at 0) ⌝ }
+{
+    nodes::amount_letter(nodes::slot(nodes, at, 0))
+}
+
+pub fn test_kind(nodes: &[i64; 2560], at: usize) -> TestLetter
+    requires { ⌜ at < 512 ⌝ }
+    ensures { λ r. ⌜ r ≡ testLetter (slotAt (now (nodes .entry)) at 0) ⌝ }
+{
+    nodes::test_letter(nodes::slot(nodes, at, 0))
+}
+
+// A delay below zero counts as none.
+pub fn delay(nodes: &[i64; 2560], at: usize) -> Month
+    requires { ⌜ at < 512 ⌝ }
+    ensures { λ r. ⌜ r .0 ≡ pos (natOf (slotAt (now (nodes .entry)) at 1)) ⌝ }
+{
+    let d = nodes::slot(nodes, at, 1);
+    if d < 0 {
+        return Month(0);
+    }
+    Month(d)
+}
+
+// The offset of an `O`.
+pub fn offset(nodes: &[i64; 2560], at: usize) -> Month
+    requires { ⌜ at < 512 ⌝ }
+    ensures { λ r. ⌜ r .0 ≡ slotAt (now (nodes .entry)) at 2 ⌝ }
+{
+    Month(nodes::slot(nodes, at, 2))
+}
+
+// The label of an `O`; one below zero counts as 0.
+pub fn label(nodes: &[i64; 2560], at: usize) -> usize
+    requires { ⌜ at < 512 ⌝ }
+    ensures { λ r. ⌜ r ≡ natOf (slotAt (now (nodes .entry)) at 1) ⌝ }
+{
+    let l = nodes::slot(nodes, at, 1);
+    if l < 0 {
+        return 0;
+    }
+    l as usize
+}

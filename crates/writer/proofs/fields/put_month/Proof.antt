@@ -1,0 +1,60 @@
+-- `fields::put_month` meets its contract.
+use Prim.Native.Nat.{_+_, _≤_, ℕ}
+use borrow.Author.Needs.{needs}
+use lib.IntN.{natAbs, ℤ}
+use lib.ListN.{length}
+use mathlib.Core.List.{_++_, _∷_}
+use mathlib.Core.Path.{_≡_, ap, refl, sym}
+use native.Mathlib.Omega.{arith}
+use Rattle.writer.proofs.FieldTexts.{month-is}
+use Rattle.writer.proofs.Puts.{room-as, room-first, room-next, said, then}
+use Rattle.writer.proofs.fields.put_month.Statement.{statement}
+use Rattle.writer.proofs.fields.put_month.Tie as tie
+use Rattle.writer.specs.Shapes.{monthField, numberField, settingsText}
+use Rattle.writer.specs.Written.{slot}
+
+module _ (c : tie.Start) where
+  abbrev first : ℤ
+  first = slot (c .args .nodes .now) (c .args .k)
+
+  abbrev second : ℤ
+  second = slot (c .args .nodes .now) (c .args .k + 1)
+
+  text : (m : ℕ) → m ≡ natAbs second → monthField first second ≡ numberField first ++ settingsText m
+  text m e = ap (λ t. 44 ∷ t) (month-is first second m e)
+
+  room : (m : ℕ) → m ≡ natAbs second → c .args .at + length (numberField first ++ settingsText m) ≤ length (c .args .out .now)
+  room m e = room-as _ _ _ _ (text m e) (c .pre .1)
+
+put-field-requires : tie.Need-put-field-requires
+put-field-requires c κs = let s : tie.Start = c .before .before in
+    (omega (arith, s .pre .0), room-first _ _ (numberField (first s)) (settingsText (natAbs (second s))) (room s _ refl))
+
+add-magnitude : tie.Need-add-magnitude
+add-magnitude c = search needs
+
+magnitude-requires : tie.Need-magnitude-requires
+magnitude-requires c κs = search needs
+
+put-settings-requires : tie.Need-put-settings-requires
+put-settings-requires c κs = let s : tie.Start = c .before .before .before .before .before .before .before in
+    room-next _ (room s _ (c .before .magnitude .ensures .0)) (c .before .before .before .before .put-field .ensures)
+
+same-length : tie.Need-same-length
+same-length c = search needs
+
+returns : tie.Need-returns
+returns c = let s : tie.Start = c .before .before .before .before .before .before .before .before .before .before in
+    said (sym (text s _ (c .before .before .before .before .magnitude .ensures .0)))
+    (then (c .before .before .before .before .before .before .before .put-field .ensures) (c .before .before .put-settings .ensures))
+
+pub put-month-spec : {M : Type 1} → statement M
+put-month-spec =
+    tie.close
+    (tie.spec
+    put-field-requires
+    add-magnitude
+    magnitude-requires
+    put-settings-requires
+    same-length
+    returns)

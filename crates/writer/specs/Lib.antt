@@ -1,0 +1,5 @@
+-- What the writer writes.
+pub mod Answers
+pub mod Put
+pub mod Shapes
+pub mod Written

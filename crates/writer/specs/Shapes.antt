@@ -1,0 +1,51 @@
+-- Which fields a row has, as the code tells them apart, and the texts of its parts.
+use Prim.Native.Nat.{_*_, _-_, ℕ}
+use lib.IntN.{ℤ}
+use lib.ListN.{drop}
+use mathlib.Core.List.{List, [], _∷_}
+use mathlib.Core.Path.{_≡_}
+use Rattle.language.specs.Text.Classes.{settingFields}
+use Rattle.language.specs.Text.Fields.{behind, join}
+use Rattle.language.specs.Text.Letters.{delay, month}
+use Rattle.language.specs.Text.Number.{byte, printNumber}
+use Rattle.nodes.specs.Rows.{settingsIn}
+use Rattle.writer.specs.Written.{classesOf, fieldText, fieldsFrom, fieldsOfRow, fieldsOfRows, slot}
+use Rattle.writer.specs.declared.rows.Shape.the-variants.{Bare, Index, Leaf, Number, Pair, Wait}
+use Rattle.writer.specs.declared.rows.Shape.{Shape}
+
+-- ---- texts of the parts of a row, each with its comma in front
+
+abbrev pub numberField : ℤ → List ℕ
+numberField z = byte "," ∷ printNumber z
+
+abbrev pub delayField : ℤ → List ℕ
+delayField z = byte "," ∷ fieldText delay z z
+
+-- the settings of a month, each behind a plus
+abbrev pub settingsText : ℕ → List ℕ
+settingsText digits = behind (byte "+") (settingFields (settingsIn digits))
+
+abbrev pub monthField : ℤ → ℤ → List ℕ
+monthField a b = byte "," ∷ fieldText month a b
+
+-- a row's text: its letter, then its fields behind commas
+unfoldable pub rowText : List ℤ → List ℕ
+rowText row = join (fieldsOfRow row)
+
+-- the text of the rows from row i on, up to `count` rows, each behind a comma
+abbrev pub restText : ℕ → ℕ → List ℤ → List ℕ
+restText count i nodes = behind (byte ",") (fieldsOfRows (count - i) (drop (5 * i) nodes))
+
+-- ---- shapes
+
+unfoldable pub shapeFields : Shape → List ℤ → List (List ℕ)
+shapeFields Bare row = []
+shapeFields Number row = printNumber (slot row 1) ∷ []
+shapeFields Pair row = printNumber (slot row 1) ∷ printNumber (slot row 2) ∷ []
+shapeFields Wait row = fieldText delay (slot row 1) (slot row 2) ∷ []
+shapeFields Index row = printNumber (slot row 1) ∷ fieldText month (slot row 2) (slot row 3) ∷ []
+shapeFields Leaf row = fieldText month (slot row 1) (slot row 2) ∷ printNumber (slot row 3) ∷ printNumber (slot row 4) ∷ []
+
+-- a row that begins with this byte has these fields
+pub record ShapeOf (b : ℕ) (s : Shape) : Type 0 where
+  pub fields : (row : List ℤ) → fieldsFrom (classesOf b) 1 row ≡ shapeFields s row

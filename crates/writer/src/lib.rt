@@ -1,0 +1,75 @@
+// From the node table to text: counts the bytes, then writes them.
+ghost use mathlib.Core.Path.{_≡_};
+ghost use Prim.Native.Nat.{_*_, _+_, _≤_};
+ghost use lib.ListN.{length};
+ghost use Rattle.writer.specs.Answers.{writeCall, writtenAnswer};
+ghost use Rattle.writer.specs.Put.{Put};
+ghost use Rattle.writer.specs.Shapes.{restText};
+ghost use Rattle.writer.specs.Written.{written};
+
+mod digits;
+mod fields;
+mod rows;
+
+pub enum Written {
+    Bytes(usize),
+    NoRoom,
+}
+
+// The bytes of the text of the first `count` rows.
+pub fn text_length(nodes: &[i64], count: usize) -> usize
+    requires { ⌜ (5 * count ≤ length (now nodes)) × (count ≤ 512) ⌝ }
+    ensures { λ r. ⌜ r ≡ length (written count (now (nodes .entry))) ⌝ }
+{
+    if count == 0 {
+        return 0;
+    }
+    let mut sum = rows::row_length(nodes, 0);
+    let mut i: usize = 1;
+    while i < count {
+        sum = sum + 1 + rows::row_length(nodes, 5 * i);
+        i += 1;
+    }
+    sum
+}
+
+// Writes the rows behind the first, each behind a comma.
+fn put_rest(nodes: &[i64], count: usize, out: &mut [u8], at: usize) -> usize
+    requires { ⌜ (5 * count ≤ length (now nodes)) × (at + length (restText count 1 (now nodes)) ≤ length (now out)) ⌝ }
+    ensures { λ r. ⌜ Put (now (out .entry)) (now (out .exit)) at r (restText count 1 (now (nodes .entry))) ⌝ }
+{
+    let mut place = at;
+    let mut i: usize = 1;
+    while i < count {
+        place = rows::put_next_row(nodes, 5 * i, out, place);
+        i += 1;
+    }
+    place
+}
+
+// Writes the text of the first `count` rows from the first byte on.
+fn put_text(nodes: &[i64], count: usize, out: &mut [u8]) -> usize
+    requires { ⌜ (5 * count ≤ length (now nodes)) × (length (written count (now nodes)) ≤ length (now out)) ⌝ }
+    ensures { λ r. ⌜ Put (now (out .entry)) (now (out .exit)) 0 r (written count (now (nodes .entry))) ⌝ }
+{
+    if count == 0 {
+        return 0;
+    }
+    let at = rows::put_row(nodes, 0, out, 0);
+    put_rest(nodes, count, out, at)
+}
+
+// The text of the first `count` rows into `out`, or no byte of it where it does not fit.
+pub fn write_text(nodes: &[i64], count: usize, out: &mut [u8]) -> Written
+    requires { ⌜ (5 * count ≤ length (now nodes)) × (count ≤ 512) ⌝ }
+    ensures { λ r. ⌜ (now (out .exit) ≡ writeCall count (now (nodes .entry)) (now (out .entry)) .buffer)
+        × (writtenAnswer r ≡ writeCall count (now (nodes .entry)) (now (out .entry)) .answer) ⌝ }
+{
+    let need = text_length(nodes, count);
+    if out.len() < need {
+        Written::NoRoom
+    } else {
+        let end = put_text(nodes, count, out);
+        Written::Bytes(end)
+    }
+}

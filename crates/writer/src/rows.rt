@@ -1,0 +1,113 @@
+// Rows of the node table as text.
+ghost use mathlib.Core.Path.{_≡_};
+ghost use Prim.Native.Nat.{_+_, _<_, _≤_};
+ghost use lib.ListN.{drop, length};
+ghost use mathlib.Core.List.{_∷_};
+ghost use Rattle.writer.specs.Put.{Put};
+ghost use Rattle.writer.specs.Shapes.{ShapeOf, rowText};
+ghost use Rattle.writer.specs.Written.{letterByte, slot};
+use crate::digits;
+use crate::fields;
+
+// Which fields a row has.
+pub enum Shape {
+    Bare,
+    Number,
+    Pair,
+    Wait,
+    Index,
+    Leaf,
+}
+
+// The byte of the letter at k.
+pub fn letter_byte(nodes: &[i64], k: usize) -> u8
+    requires { ⌜ k < length (now nodes) ⌝ }
+    ensures { λ r. ⌜ r ≡ letterByte (slot (now (nodes .entry)) k) ⌝ }
+{
+    let z = nodes[k];
+    if z < 0 {
+        return b'?';
+    }
+    if 255 < z {
+        return b'?';
+    }
+    z as u8
+}
+
+// Which fields a row with this letter has.
+pub fn shape_of(letter: u8) -> Shape
+    ensures { λ r. ⌜ ShapeOf letter r ⌝ }
+{
+    match letter {
+        b'N' => Shape::Number,
+        b'Q' => Shape::Number,
+        b'T' => Shape::Pair,
+        b'L' => Shape::Wait,
+        b'W' => Shape::Wait,
+        b'O' => Shape::Index,
+        b'F' => Shape::Leaf,
+        b'H' => Shape::Leaf,
+        _ => Shape::Bare,
+    }
+}
+
+// The bytes of the row at j, without a comma in front.
+pub fn row_length(nodes: &[i64], j: usize) -> usize
+    requires { ⌜ j + 5 ≤ length (now nodes) ⌝ }
+    ensures { λ r. ⌜ (r ≡ length (rowText (drop j (now (nodes .entry))))) × (r ≤ 900) ⌝ }
+{
+    let shape = shape_of(letter_byte(nodes, j));
+    match shape {
+        Shape::Bare => 1,
+        Shape::Number => 2 + digits::number_length(nodes, j + 1),
+        Shape::Pair => 3
+            + digits::number_length(nodes, j + 1)
+            + digits::number_length(nodes, j + 2),
+        Shape::Wait => 2 + fields::delay_length(nodes, j + 1),
+        Shape::Index => 3
+            + digits::number_length(nodes, j + 1)
+            + fields::month_length(nodes, j + 2),
+        Shape::Leaf => 4
+            + fields::month_length(nodes, j + 1)
+            + digits::number_length(nodes, j + 3)
+            + digits::number_length(nodes, j + 4),
+    }
+}
+
+// Writes the row at j.
+pub fn put_row(nodes: &[i64], j: usize, out: &mut [u8], at: usize) -> usize
+    requires { ⌜ (j + 5 ≤ length (now nodes)) × (at + length (rowText (drop j (now nodes))) ≤ length (now out)) ⌝ }
+    ensures { λ r. ⌜ Put (now (out .entry)) (now (out .exit)) at r (rowText (drop j (now (nodes .entry)))) ⌝ }
+{
+    let letter = letter_byte(nodes, j);
+    let shape = shape_of(letter);
+    out[at] = letter;
+    let place = at + 1;
+    match shape {
+        Shape::Bare => place,
+        Shape::Number => fields::put_field(nodes, j + 1, out, place),
+        Shape::Pair => {
+            let next = fields::put_field(nodes, j + 1, out, place);
+            fields::put_field(nodes, j + 2, out, next)
+        }
+        Shape::Wait => fields::put_delay(nodes, j + 1, out, place),
+        Shape::Index => {
+            let next = fields::put_field(nodes, j + 1, out, place);
+            fields::put_month(nodes, j + 2, out, next)
+        }
+        Shape::Leaf => {
+            let next = fields::put_month(nodes, j + 1, out, place);
+            let third = fields::put_field(nodes, j + 3, out, next);
+            fields::put_field(nodes, j + 4, out, third)
+        }
+    }
+}
+
+// Writes the row at j behind a comma.
+pub fn put_next_row(nodes: &[i64], j: usize, out: &mut [u8], at: usize) -> usize
+    requires { ⌜ (j + 5 ≤ length (now nodes)) × (at + length (44 ∷ rowText (drop j (now nodes))) ≤ length (now out)) ⌝ }
+    ensures { λ r. ⌜ Put (now (out .entry)) (now (out .exit)) at r (44 ∷ rowText (drop j (now (nodes .entry)))) ⌝ }
+{
+    out[at] = b',';
+    put_row(nodes, j, out, at + 1)
+}
