@@ -1,17 +1,5 @@
 -- What each letter shows of the magnitude of an amount, and whether a test is small.
 use Prim.Native.Nat.{_*_, _+_, _-_, _≤_, max, suc, zero, ℕ}
-use borrow.Author.Tests.{le-leb, leb-true}
-use lib.Dec.{T, leb}
-use lib.IntN.{natAbs, negsuc, pos, ℤ}
-use lib.ListN.{List·getD-eq-default, getD, length}
-use lib.Signed.{leZ, leZ-yes}
-use mathlib.Core.Bool.{Bool, _&&_, false, true}
-use mathlib.Core.List.{List, [], _∷_}
-use mathlib.Core.Path.{_∙_, _≡_, ap, ap₂, refl, sym}
-use mir.Facts.{toZ-ofZ}
-use mir.Syntax.{w64}
-use mir.Val.{SFits}
-use native.Mathlib.Omega.{arith}
 use Rattle.integers.proofs.Locals.{rd}
 use Rattle.integers.proofs.Solver.{parts-le}
 use Rattle.integers.specs.declared.Pence.{Pence}
@@ -21,20 +9,32 @@ use Rattle.language.specs.Rules.Measures.{magnitudeOfAmount}
 use Rattle.language.specs.Rules.Table.{allOf}
 use Rattle.language.specs.Rules.Tests.{amountSmall, testSmall}
 use Rattle.language.specs.Text.Number.{between}
-use Rattle.language.specs.Text.Trees.{Amount, Test, choose, difference, index, number, product, quotient, sum}
+use Rattle.language.specs.Text.Trees.{Amount, choose, difference, index, number, product, quotient, sum}
 use Rattle.measures.proofs.Amounts.{amount-is, number-ready, test-is}
-use Rattle.measures.proofs.Joins.{again, joined-measured, kept-measured, within-measured}
-use Rattle.measures.specs.declared.limit.Measured.{Measured}
-use Rattle.measures.specs.declared.limit.Measured.the-variants.{Beyond, Within}
+use Rattle.measures.proofs.Joins.{again, joined-measured, kept-measured, third, within-measured}
 use Rattle.measures.specs.Magnitudes.{InBounds, Kept, boundIn, isWithin, joined, measured, measuredAmount}
 use Rattle.measures.specs.Ready.{AmountReady, TestReady}
-use Rattle.nodes.specs.declared.AmountLetter.{AmountLetter}
-use Rattle.nodes.specs.declared.AmountLetter.the-variants as letter
-use Rattle.nodes.specs.declared.TestLetter.{TestLetter}
-use Rattle.nodes.specs.declared.TestLetter.the-variants as test
+use Rattle.measures.specs.declared.limit.Measured.the-variants.{Beyond, Within}
+use Rattle.measures.specs.declared.limit.Measured.{Measured}
 use Rattle.nodes.specs.Found.{amountAt, offsetOf, testAt}
 use Rattle.nodes.specs.Letters.{amountLetter, testLetter}
 use Rattle.nodes.specs.Table.{linkAt, natOf, slotAt}
+use Rattle.nodes.specs.declared.AmountLetter.the-variants as letter
+use Rattle.nodes.specs.declared.AmountLetter.{AmountLetter}
+use Rattle.nodes.specs.declared.TestLetter.the-variants as test
+use Rattle.nodes.specs.declared.TestLetter.{TestLetter}
+use borrow.Author.Tests.{le-leb, leb-true}
+use lib.Dec.{T, leb}
+use lib.IntN.{natAbs, negsuc, pos, ℤ}
+use lib.ListN.{List·getD-eq-default, getD, length}
+use lib.Signed.{leZ, leZ-yes}
+use mathlib.Core.Bool.{Bool, _&&_, false, true}
+use mathlib.Core.List.{List, [], _∷_}
+use mathlib.Core.Path.{_∙_, _≡_, ap₂, refl}
+use mir.Facts.{toZ-ofZ}
+use mir.Syntax.{w64}
+use mir.Val.{SFits}
+use native.Mathlib.Omega.{arith}
 
 -- ---- bounds
 
@@ -56,9 +56,6 @@ bound-absent bounds l h = rw (List·getD-eq-default bounds (pos 0) h) refl
 -- ---- where an amount is small, its magnitude is within the limit
 
 module _ (bound : ℕ → ℕ) where
-  third : (p q r : Bool) → (p && (q && r)) ≡ true → r ≡ true
-  third p q r e = and-e q r (and-e p (q && r) e .1) .1
-
   amount-limit : (a : Amount ℤ) → amountSmall bound a ≡ true → magnitudeOfAmount bound a ≤ maxAmount
   unfolding amountSmall
   amount-limit (number n) e = leb-true _ _ e

@@ -1,21 +1,21 @@
 -- An amount or test that can be walked: what stands at a node by its letter, and its parts can be walked too.
 use Prim.Native.Nat.{_+_, _-_, _<_, _≤_, suc, zero, ℕ}
-use lib.IntN.{natAbs, ℤ}
-use mathlib.Core.List.{List}
-use mathlib.Core.Path.{_∙_, _≡_, refl, subst, sym}
-use native.Mathlib.Omega.{arith}
 use Rattle.language.specs.Limits.{maxAmount, maxLabels, maxNodes}
 use Rattle.language.specs.Text.Form.{fieldsOfAmount, fieldsOfTest, offsetInForm}
 use Rattle.language.specs.Text.Trees.{Amount, Test}
 use Rattle.measures.specs.Ready.{AmountReady, AmountsReady, TestReady, TestsReady}
-use Rattle.nodes.specs.declared.AmountLetter.{AmountLetter}
-use Rattle.nodes.specs.declared.AmountLetter.the-variants.{Choose, Difference, Index, Number, Product, Quotient, Sum}
-use Rattle.nodes.specs.declared.TestLetter.{TestLetter}
-use Rattle.nodes.specs.declared.TestLetter.the-variants.{Conjunction, Disjunction, Equal, Less, Negation}
 use Rattle.nodes.specs.Found.{amountAt, amountBy, offsetOf, testAt, testBy}
 use Rattle.nodes.specs.Letters.{amountLetter, testLetter}
 use Rattle.nodes.specs.Stands.{AmountStands, Forward, TestStands, amountAsks, testAsks}
 use Rattle.nodes.specs.Table.{linkAt, natOf, slotAt}
+use Rattle.nodes.specs.declared.AmountLetter.the-variants.{Choose, Difference, Index, Number, Product, Quotient, Sum}
+use Rattle.nodes.specs.declared.AmountLetter.{AmountLetter}
+use Rattle.nodes.specs.declared.TestLetter.the-variants.{Conjunction, Disjunction, Equal, Less, Negation}
+use Rattle.nodes.specs.declared.TestLetter.{TestLetter}
+use lib.IntN.{natAbs, ℤ}
+use mathlib.Core.List.{List}
+use mathlib.Core.Path.{_∙_, _≡_, refl, subst, sym}
+use native.Mathlib.Omega.{arith}
 
 -- what stands at a node with letter m, its parts one level down
 abbrev amountHere : AmountLetter → ℕ → List ℤ → ℕ → Amount ℤ
@@ -38,7 +38,7 @@ testAsksHere m left nodes at =
     testAsks m (AmountStands left nodes (at + 1)) (Forward nodes at 3 × AmountStands left nodes (linkAt nodes at 3))
     (TestStands left nodes (at + 1)) (Forward nodes at 3 × TestStands left nodes (linkAt nodes at 3))
 
-one-less : (left : ℕ) → suc left - 1 ≡ left
+pub one-less : (left : ℕ) → suc left - 1 ≡ left
 one-less left = omega arith
 
 amount-step : (left : ℕ) (nodes : List ℤ) (at : ℕ) → AmountStands left nodes at → amountAt offsetOf left nodes at ≡ amountHere (amountLetter (slotAt nodes at 0)) (left - 1) nodes at
@@ -60,6 +60,15 @@ test-asks : (left : ℕ) (nodes : List ℤ) (at : ℕ) → TestStands left nodes
 unfolding TestStands
 test-asks zero nodes at s = absurd s
 test-asks (suc left) nodes at s = rw (one-less left) (omega arith, s .0, s .1)
+
+-- the two amounts, or the two tests, below a node
+amounts-ready : {left at : ℕ} {nodes : List ℤ} → at < maxNodes → AmountStands left nodes (at + 1) × (Forward nodes at 3 × AmountStands left nodes (linkAt nodes at 3))
+    → fieldsOfAmount offsetInForm (amountAt offsetOf left nodes (at + 1)) × fieldsOfAmount offsetInForm (amountAt offsetOf left nodes (linkAt nodes at 3)) → AmountsReady left nodes at
+amounts-ready r a f = record { room = r; first = record { stands = a .0; fields = f .0 }; forward = a .1 .0; second = record { stands = a .1 .1; fields = f .1 } }
+
+tests-ready : {left at : ℕ} {nodes : List ℤ} → at < maxNodes → TestStands left nodes (at + 1) × (Forward nodes at 3 × TestStands left nodes (linkAt nodes at 3))
+    → fieldsOfTest offsetInForm (testAt offsetOf left nodes (at + 1)) × fieldsOfTest offsetInForm (testAt offsetOf left nodes (linkAt nodes at 3)) → TestsReady left nodes at
+tests-ready r a f = record { room = r; first = record { stands = a .0; fields = f .0 }; forward = a .1 .0; second = record { stands = a .1 .1; fields = f .1 } }
 
 -- ---- amounts
 
@@ -94,24 +103,15 @@ module _ {left at : ℕ} {nodes : List ℤ} (h : AmountReady left nodes at) wher
 
     pub sum-ready : l ≡ Sum → AmountsReady (left - 1) nodes at
     unfolding fieldsOfAmount
-    sum-ready t =
-        let a = asked e t in
-        let f = inForm e t in
-        record { room = amount-room; first = record { stands = a .0; fields = f .0 }; forward = a .1 .0; second = record { stands = a .1 .1; fields = f .1 } }
+    sum-ready t = amounts-ready amount-room (asked e t) (inForm e t)
 
     pub difference-ready : l ≡ Difference → AmountsReady (left - 1) nodes at
     unfolding fieldsOfAmount
-    difference-ready t =
-        let a = asked e t in
-        let f = inForm e t in
-        record { room = amount-room; first = record { stands = a .0; fields = f .0 }; forward = a .1 .0; second = record { stands = a .1 .1; fields = f .1 } }
+    difference-ready t = amounts-ready amount-room (asked e t) (inForm e t)
 
     pub product-ready : l ≡ Product → AmountsReady (left - 1) nodes at
     unfolding fieldsOfAmount
-    product-ready t =
-        let a = asked e t in
-        let f = inForm e t in
-        record { room = amount-room; first = record { stands = a .0; fields = f .0 }; forward = a .1 .0; second = record { stands = a .1 .1; fields = f .1 } }
+    product-ready t = amounts-ready amount-room (asked e t) (inForm e t)
 
     pub quotient-ready : l ≡ Quotient → AmountReady (left - 1) nodes (at + 1)
     unfolding fieldsOfAmount
@@ -150,31 +150,19 @@ module _ {left at : ℕ} {nodes : List ℤ} (h : TestReady left nodes at) where
   module _ {l : TestLetter} (e : l ≡ testLetter (slotAt nodes at 0)) where
     pub less-ready : l ≡ Less → AmountsReady (left - 1) nodes at
     unfolding fieldsOfTest
-    less-ready t =
-        let a = test-asked e t in
-        let f = test-inForm e t in
-        record { room = test-room; first = record { stands = a .0; fields = f .0 }; forward = a .1 .0; second = record { stands = a .1 .1; fields = f .1 } }
+    less-ready t = amounts-ready test-room (test-asked e t) (test-inForm e t)
 
     pub equal-ready : l ≡ Equal → AmountsReady (left - 1) nodes at
     unfolding fieldsOfTest
-    equal-ready t =
-        let a = test-asked e t in
-        let f = test-inForm e t in
-        record { room = test-room; first = record { stands = a .0; fields = f .0 }; forward = a .1 .0; second = record { stands = a .1 .1; fields = f .1 } }
+    equal-ready t = amounts-ready test-room (test-asked e t) (test-inForm e t)
 
     pub conjunction-ready : l ≡ Conjunction → TestsReady (left - 1) nodes at
     unfolding fieldsOfTest
-    conjunction-ready t =
-        let a = test-asked e t in
-        let f = test-inForm e t in
-        record { room = test-room; first = record { stands = a .0; fields = f .0 }; forward = a .1 .0; second = record { stands = a .1 .1; fields = f .1 } }
+    conjunction-ready t = tests-ready test-room (test-asked e t) (test-inForm e t)
 
     pub disjunction-ready : l ≡ Disjunction → TestsReady (left - 1) nodes at
     unfolding fieldsOfTest
-    disjunction-ready t =
-        let a = test-asked e t in
-        let f = test-inForm e t in
-        record { room = test-room; first = record { stands = a .0; fields = f .0 }; forward = a .1 .0; second = record { stands = a .1 .1; fields = f .1 } }
+    disjunction-ready t = tests-ready test-room (test-asked e t) (test-inForm e t)
 
     pub negation-ready : l ≡ Negation → TestReady (left - 1) nodes (at + 1)
     unfolding fieldsOfTest

@@ -1,13 +1,4 @@
 -- A field that code reads from a row: what stands there, and 0 for one below zero.
-use lib.Dec.{T}
-use lib.IntN.{_-ℤ_, natAbs, negsuc, negℤ, pos, ℤ}
-use lib.Signed.{ltZ, nonNeg}
-use mathlib.Core.Bool.{false, true, true≢false}
-use mathlib.Core.Path.{_∙_, _≡_, ap, refl, sym}
-use mir.Facts.{toZ-ofZ}
-use mir.Syntax.{w64}
-use mir.Val.{Fits, SFits}
-use native.Mathlib.Omega.{arith}
 use Rattle.integers.proofs.Laws.{natAbs-le, natAbs-parts, sfits64}
 use Rattle.integers.proofs.Locals.{rd}
 use Rattle.integers.proofs.Solver.{_⊖_, lit, ring, sound, var, ⊝}
@@ -15,6 +6,15 @@ use Rattle.integers.proofs.Tests.{lt-true}
 use Rattle.integers.specs.Bounded.{Small, amountLimit}
 use Rattle.nodes.proofs.Signed.{index-cast, index-reads}
 use Rattle.nodes.specs.Table.{natOf}
+use lib.Dec.{T}
+use lib.IntN.{_-ℤ_, natAbs, negsuc, negℤ, pos, ℤ}
+use lib.Signed.{ltZ, nonNeg}
+use mathlib.Core.Bool.{false, true, true≢false}
+use mathlib.Core.Path.{_∙_, _≡_, ap, refl}
+use mir.Facts.{toZ-ofZ}
+use mir.Syntax.{w64}
+use mir.Val.{Fits, SFits}
+use native.Mathlib.Omega.{arith}
 
 none : (y : ℤ) → ltZ y (pos 0) ≡ true → 0 ≡ natOf y
 none (pos n) e = absurd (omega (arith, lt-true (pos n) (pos 0) e))
@@ -24,7 +24,7 @@ some : (y : ℤ) → ltZ y (pos 0) ≡ false → T (nonNeg y)
 some (pos n) e = tt
 some (negsuc n) e = absurd (true≢false e)
 
-whole : (y : ℤ) → T (nonNeg y) → y ≡ pos (natOf y)
+pub whole : (y : ℤ) → T (nonNeg y) → y ≡ pos (natOf y)
 whole (pos n) h = refl
 whole (negsuc n) h = absurd h
 
@@ -54,7 +54,7 @@ zero-less : (h : ℤ) → pos 0 -ℤ h ≡ negℤ h
 zero-less h = ring (lit 0 ⊖ var h) (⊝ (var h)) (omega arith)
 
 module _ {h : ℤ} (s : Small h) (f : SFits w64 h) where
-  back-here : SFits w64 (pos 0 -ℤ h)
+  pub back-here : SFits w64 (pos 0 -ℤ h)
   back-here =
       let p = sound (lit 0 ⊖ var h) in
       sfits64 amountLimit (natAbs-le (pos 0 -ℤ h) amountLimit (omega (arith, p, natAbs-parts h, s .small)) (omega (arith, p, natAbs-parts h, s .small))) tt

@@ -1,25 +1,27 @@
 -- Two magnitudes joined, as the code does it, and as the definitions say it.
 use Prim.Native.Nat.{_*_, _+_, _≤_, max, ℕ}
+use Rattle.integers.proofs.Locals.{rd}
+use Rattle.integers.specs.Bounded.{amountWithin}
+use Rattle.integers.specs.declared.Bounded.the-variants as bounded
+use Rattle.integers.specs.declared.Bounded.{Bounded}
+use Rattle.integers.specs.declared.Pence.{Pence}
+use Rattle.language.proofs.Truth.{and-e}
+use Rattle.language.specs.Limits.{maxAmount}
+use Rattle.measures.proofs.Fields.{whole}
+use Rattle.measures.specs.Magnitudes.{Kept, isWithin, joined, measured, measuredOf}
+use Rattle.measures.specs.declared.limit.Measured.the-variants.{Beyond, Within}
+use Rattle.measures.specs.declared.limit.Measured.{Measured}
+use Rattle.nodes.specs.Table.{natOf}
 use borrow.Author.Tests.{le-leb, ltb-false, ltb-true}
-use lib.Dec.{T, leb}
+use lib.Dec.{leb}
 use lib.IntN.{_*ℤ_, _+ℤ_, natAbs, negsuc, pos, ℤ}
-use lib.Signed.{ltZ, nonNeg}
+use lib.Signed.{ltZ}
 use mathlib.Core.Bool.{Bool, _&&_, cond, false, true}
 use mathlib.Core.Path.{_∙_, _≡_, ap, ap₂, refl, sym}
 use mir.Facts.{toZ-ofZ}
 use mir.Syntax.{w64}
 use mir.Val.{SFits}
 use native.Mathlib.Omega.{arith}
-use Rattle.integers.proofs.Locals.{rd}
-use Rattle.integers.specs.Bounded.{Small, amountWithin}
-use Rattle.integers.specs.declared.Bounded.{Bounded}
-use Rattle.integers.specs.declared.Bounded.the-variants as bounded
-use Rattle.integers.specs.declared.Pence.{Pence}
-use Rattle.language.specs.Limits.{maxAmount}
-use Rattle.measures.specs.declared.limit.Measured.{Measured}
-use Rattle.measures.specs.declared.limit.Measured.the-variants.{Beyond, Within}
-use Rattle.measures.specs.Magnitudes.{Kept, isWithin, joined, measured, measuredOf}
-use Rattle.nodes.specs.Table.{natOf}
 
 -- ---- as the code does it
 
@@ -39,10 +41,6 @@ taken-is n = by (leb n maxAmount)
     by : (small : Bool) → measuredOf (cond small (bounded.Within (record { 0 = pos n })) bounded.OutOfRange) ≡ measured small n
     by true = refl
     by false = refl
-
-whole : (z : ℤ) → T (nonNeg z) → z ≡ pos (natOf z)
-whole (pos n) t = refl
-whole (negsuc n) t = absurd t
 
 limit : (z : ℤ) → natAbs z ≤ maxAmount → natOf z ≤ maxAmount
 limit (pos n) h = h
@@ -114,3 +112,7 @@ within-measured false n e = ap isWithin e
 pub again : (p : Bool) (n : ℕ) → (p ≡ true → n ≤ maxAmount) → (p && leb n maxAmount) ≡ p
 again true n h = le-leb n maxAmount (h refl)
 again false n h = refl
+
+-- the last of three tests that hold
+pub third : (p q r : Bool) → (p && (q && r)) ≡ true → r ≡ true
+third p q r e = and-e q r (and-e p (q && r) e .1) .1

@@ -1,29 +1,27 @@
--- What each letter shows of the latest read of an amount or test.
-use Prim.Native.Nat.{_+_, _-_, ℕ}
+-- The later of two reads, and the latest read of rows that stand together.
+use Prim.Native.Nat.{_+_, _-_, _<_, _≤_, suc, zero, ℕ}
+use Rattle.integers.proofs.Locals.{rd}
+use Rattle.integers.proofs.Tests.{le-false, le-true}
+use Rattle.integers.specs.declared.Month.{Month}
+use Rattle.language.specs.Limits.{maxNodes}
+use Rattle.language.specs.Rules.Measures.{Latest, atMost, laterOf, latestOf, latestOfTest, maxZ, noMonth}
+use Rattle.measures.proofs.RowsTogether.{Joins, amount-rows, test-rows}
+use Rattle.measures.specs.Blocks.{AmountBlock, TestBlock}
+use Rattle.measures.specs.Rows.{isIndex, rowLatest, rowsLatest, rowsOf}
+use Rattle.measures.specs.Timing.{latestRead}
+use Rattle.measures.specs.declared.latest.LatestRead.the-variants.{AtMost, NoMonth}
+use Rattle.measures.specs.declared.latest.LatestRead.{LatestRead}
+use Rattle.nodes.specs.Found.{amountAt, offsetOf, testAt}
+use Rattle.nodes.specs.Table.{slotAt}
 use lib.IntN.{pos, ℤ}
 use lib.Signed.{leZ}
-use mathlib.Core.Bool.{false, true}
+use mathlib.Core.Bool.{Bool, cond, false, true}
 use mathlib.Core.List.{List}
 use mathlib.Core.Path.{_∙_, _≡_, ap, refl, sym}
 use mir.Facts.{toZ-ofZ}
 use mir.Syntax.{w64}
 use mir.Val.{SFits}
 use native.Mathlib.Omega.{arith}
-use Rattle.integers.proofs.Locals.{rd}
-use Rattle.integers.specs.declared.Month.{Month}
-use Rattle.language.specs.Rules.Measures.{Latest, atMost, laterOf, latestOf, latestOfTest, noMonth}
-use Rattle.measures.proofs.Amounts.{amount-is, test-is}
-use Rattle.measures.specs.declared.latest.LatestRead.{LatestRead}
-use Rattle.measures.specs.declared.latest.LatestRead.the-variants.{AtMost, NoMonth}
-use Rattle.measures.specs.Ready.{AmountReady, TestReady}
-use Rattle.measures.specs.Timing.{latestRead}
-use Rattle.nodes.specs.declared.AmountLetter.{AmountLetter}
-use Rattle.nodes.specs.declared.AmountLetter.the-variants as amount
-use Rattle.nodes.specs.declared.TestLetter.{TestLetter}
-use Rattle.nodes.specs.declared.TestLetter.the-variants as test
-use Rattle.nodes.specs.Found.{amountAt, offsetOf, testAt}
-use Rattle.nodes.specs.Letters.{amountLetter, testLetter}
-use Rattle.nodes.specs.Table.{linkAt, slotAt}
 
 -- ---- what an answer stands for
 
@@ -65,86 +63,101 @@ module _ (x y : Latest) {a b : LatestRead} (ea : a ≡ latestRead x) (eb : b ≡
           let w : leZ (i .0) (j .0) ≡ false = rw (toZ-ofZ f, toZ-ofZ g) at q in
           rw (is-most x (sym t ∙ ea), is-most y (sym u ∙ eb), w) refl
 
--- ---- amounts
+-- ---- the later of several
 
-module _ {left at : ℕ} {nodes : List ℤ} (h : AmountReady left nodes at) {l : AmountLetter} (e : l ≡ amountLetter (slotAt nodes at 0)) where
-  abbrev whole : LatestRead
-  whole = latestRead (latestOf (amountAt offsetOf left nodes at))
+max-first : (a b c : ℤ) → maxZ (maxZ a b) c ≡ maxZ a (maxZ b c)
+max-first a b c = by (leZ a b) (leZ b c) (leZ a c) refl refl refl
+  where
+    by : (p q r : Bool) → leZ a b ≡ p → leZ b c ≡ q → leZ a c ≡ r → cond (leZ (cond p b a) c) c (cond p b a) ≡ cond (leZ a (cond q c b)) (cond q c b) a
+    by true true true ep eq er = rw (eq, er) refl
+    by true true false ep eq er = absurd (omega (arith, le-true a b ep, le-true b c eq, le-false a c er))
+    by true false r ep eq er = rw (eq, ep) refl
+    by false true true ep eq er = rw er refl
+    by false true false ep eq er = rw er refl
+    by false false true ep eq er = absurd (omega (arith, le-false a b ep, le-false b c eq, le-true a c er))
+    by false false false ep eq er = rw (er, ep) refl
 
-  abbrev part : ℕ → Latest
-  part p = latestOf (amountAt offsetOf (left - 1) nodes p)
+later-assoc : (x y z : Latest) → laterOf (laterOf x y) z ≡ laterOf x (laterOf y z)
+unfolding laterOf
+later-assoc noMonth y z = refl
+later-assoc (atMost i) noMonth z = refl
+later-assoc (atMost i) (atMost j) noMonth = refl
+later-assoc (atMost i) (atMost j) (atMost k) = ap atMost (max-first i j k)
 
-  abbrev two : LatestRead
-  two = latestRead (laterOf (part (at + 1)) (part (linkAt nodes at 3)))
+later-second-none : (x : Latest) → laterOf x noMonth ≡ x
+unfolding laterOf
+later-second-none noMonth = refl
+later-second-none (atMost i) = refl
 
-  pub number-latest : l ≡ amount.Number → NoMonth ≡ whole
-  unfolding latestOf
-  number-latest t = rw (amount-is h e t)
+latest-joins : Joins noMonth laterOf (λ l i. atMost i) latestOf latestOfTest
+unfolding laterOf latestOf latestOfTest
+latest-joins = record {
+  first-none = λ x. refl;
+  second-none = later-second-none;
+  assoc = later-assoc;
+  of-number = λ n. refl;
+  of-index = λ l i. refl;
+  of-sum = λ a b. refl;
+  of-difference = λ a b. refl;
+  of-product = λ a b. refl;
+  of-quotient = λ n a. refl;
+  of-choose = λ t a b. refl;
+  of-less = λ a b. refl;
+  of-equal = λ a b. refl;
+  of-conjunction = λ s t. refl;
+  of-disjunction = λ s t. refl;
+  of-negation = λ t. refl;
+}
 
-  pub no-amount-latest : l ≡ amount.NoAmount → NoMonth ≡ whole
-  unfolding latestOf
-  no-amount-latest t = rw (amount-is h e t)
+-- ---- an amount's and a test's
 
-  pub index-latest : l ≡ amount.Index → {i : Month} → i .0 ≡ slotAt nodes at 2 → AtMost i ≡ whole
-  unfolding latestOf
-  index-latest t ei = rw (amount-is h e t, ← ei) refl
+module _ (nodes : List ℤ) (from to : ℕ) where
+  pub amount-latest : AmountBlock maxNodes nodes from to → (from < to) × (rowsLatest nodes (to - from) from ≡ latestOf (amountAt offsetOf maxNodes nodes from))
+  amount-latest b = let r = amount-rows latest-joins nodes maxNodes from to b in (r .some, r .gives)
 
-  pub sum-latest : l ≡ amount.Sum → {r : LatestRead} → r ≡ two → r ≡ whole
-  unfolding latestOf
-  sum-latest t er = rw (amount-is h e t) er
+  pub test-latest : TestBlock maxNodes nodes from to → (from < to) × (rowsLatest nodes (to - from) from ≡ latestOfTest (testAt offsetOf maxNodes nodes from))
+  test-latest b = let r = test-rows latest-joins nodes maxNodes from to b in (r .some, r .gives)
 
-  pub difference-latest : l ≡ amount.Difference → {r : LatestRead} → r ≡ two → r ≡ whole
-  unfolding latestOf
-  difference-latest t er = rw (amount-is h e t) er
+-- ---- a row
 
-  pub product-latest : l ≡ amount.Product → {r : LatestRead} → r ≡ two → r ≡ whole
-  unfolding latestOf
-  product-latest t er = rw (amount-is h e t) er
+module _ (nodes : List ℤ) (at : ℕ) {x : Bool} (ex : x ≡ isIndex (slotAt nodes at 0)) where
+  pub row-index : x ≡ true → {i : Month} → i .0 ≡ slotAt nodes at 2 → AtMost i ≡ latestRead (rowLatest nodes at)
+  row-index t ei = rw (← ex, t, ← ei) refl
 
-  pub quotient-latest : l ≡ amount.Quotient → {r : LatestRead} → r ≡ latestRead (part (at + 1)) → r ≡ whole
-  unfolding latestOf
-  quotient-latest t er = rw (amount-is h e t) er
+  pub row-other : x ≡ false → NoMonth ≡ latestRead (rowLatest nodes at)
+  row-other t = rw (← ex, t) refl
 
-  pub choose-latest : l ≡ amount.Choose → {p q : ℕ} → p ≡ linkAt nodes at 3 → q ≡ linkAt nodes at 4 → {r : LatestRead}
-      → r ≡ latestRead (laterOf (latestOfTest (testAt offsetOf (left - 1) nodes (at + 1))) (laterOf (part p) (part q))) → r ≡ whole
-  unfolding latestOf
-  choose-latest t ep eq er = rw (amount-is h e t, ← ep, ← eq) er
+-- ---- the loop: what is left joined to what was passed
 
--- ---- tests
+pub record Passing (nodes : List ℤ) (from to at : ℕ) (latest : LatestRead) : Type 0 where
+  pub late : Latest
+  pub is : latest ≡ latestRead late
+  pub low : from ≤ at
+  pub high : at ≤ to
+  pub left : rowsLatest nodes (to - from) from ≡ laterOf late (rowsLatest nodes (to - at) at)
 
-module _ {left at : ℕ} {nodes : List ℤ} (h : TestReady left nodes at) {l : TestLetter} (e : l ≡ testLetter (slotAt nodes at 0)) where
-  abbrev wholeTest : LatestRead
-  wholeTest = latestRead (latestOfTest (testAt offsetOf left nodes at))
+module _ {nodes : List ℤ} {from to : ℕ} where
+  pub passing-none : from ≤ to → Passing nodes from to from NoMonth
+  unfolding laterOf
+  passing-none h = record { late = noMonth; is = refl; low = omega arith; high = h; left = refl }
 
-  abbrev partTest : ℕ → Latest
-  partTest p = latestOfTest (testAt offsetOf (left - 1) nodes p)
+  pub passing-row : {at : ℕ} {a b r : LatestRead} → Passing nodes from to at a → at < to → b ≡ latestRead (rowLatest nodes at)
+      → ((x y : Latest) → a ≡ latestRead x → b ≡ latestRead y → r ≡ latestRead (laterOf x y)) → Passing nodes from to (at + 1) r
+  unfolding rowsOf
+  passing-row {at} p h eb er =
+      let n : to - at ≡ suc (to - (at + 1)) = omega arith in
+      record {
+        late = laterOf (p .late) (rowLatest nodes at);
+        is = er (p .late) (rowLatest nodes at) (p .is) eb;
+        low = omega (arith, p .low);
+        high = omega arith;
+        left =
+            p .left ∙ ap (λ k. laterOf (p .late) (rowsLatest nodes k at)) n
+            ∙ sym (later-assoc (p .late) (rowLatest nodes at) (rowsLatest nodes (to - (at + 1)) (at + 1)));
+      }
 
-  abbrev twoAmounts : LatestRead
-  twoAmounts = latestRead (laterOf (latestOf (amountAt offsetOf (left - 1) nodes (at + 1))) (latestOf (amountAt offsetOf (left - 1) nodes (linkAt nodes at 3))))
-
-  abbrev twoTests : LatestRead
-  twoTests = latestRead (laterOf (partTest (at + 1)) (partTest (linkAt nodes at 3)))
-
-  pub less-latest : l ≡ test.Less → {r : LatestRead} → r ≡ twoAmounts → r ≡ wholeTest
-  unfolding latestOfTest
-  less-latest t er = rw (test-is h e t) er
-
-  pub equal-latest : l ≡ test.Equal → {r : LatestRead} → r ≡ twoAmounts → r ≡ wholeTest
-  unfolding latestOfTest
-  equal-latest t er = rw (test-is h e t) er
-
-  pub conjunction-latest : l ≡ test.Conjunction → {r : LatestRead} → r ≡ twoTests → r ≡ wholeTest
-  unfolding latestOfTest
-  conjunction-latest t er = rw (test-is h e t) er
-
-  pub disjunction-latest : l ≡ test.Disjunction → {r : LatestRead} → r ≡ twoTests → r ≡ wholeTest
-  unfolding latestOfTest
-  disjunction-latest t er = rw (test-is h e t) er
-
-  pub negation-latest : l ≡ test.Negation → {r : LatestRead} → r ≡ latestRead (partTest (at + 1)) → r ≡ wholeTest
-  unfolding latestOfTest
-  negation-latest t er = rw (test-is h e t) er
-
-  pub no-test-latest : l ≡ test.NoTest → NoMonth ≡ wholeTest
-  unfolding latestOfTest latestOf laterOf
-  no-test-latest t = rw (test-is h e t)
+  pub passing-all : {at : ℕ} {a : LatestRead} → Passing nodes from to at a → to ≤ at → a ≡ latestRead (rowsLatest nodes (to - from) from)
+  unfolding rowsOf
+  passing-all {at} p h =
+      let n : to - at ≡ zero = omega arith in
+      p .is ∙ ap latestRead (sym (p .left ∙ ap (λ k. laterOf (p .late) (rowsLatest nodes k at)) n ∙ later-second-none (p .late)))

@@ -1,28 +1,28 @@
 -- What each letter shows of a plan's length, and that no length leaves the months that code adds.
 use Prim.Native.Nat.{_*_, _+_, _-_, _≤_, max, suc, zero, ℕ}
-use lib.IntN.{_+ℤ_, pos, ℤ}
-use lib.Signed.{ltZ}
-use mathlib.Core.Bool.{false, true}
-use mathlib.Core.List.{List}
-use mathlib.Core.Path.{_∙_, _≡_, ap, ap₂, refl, sym}
-use borrow.Author.Tests.{ltb-false, ltb-true}
-use mir.Facts.{toZ-ofZ}
-use mir.Syntax.{w64}
-use mir.Val.{SFits}
-use native.Mathlib.Omega.{arith}
 use Rattle.integers.proofs.Locals.{rd}
 use Rattle.integers.specs.Bounded.{Small}
 use Rattle.language.specs.Limits.{maxMonths, maxNodes}
 use Rattle.language.specs.Rules.Measures.{lengthOf}
 use Rattle.language.specs.Text.Form.{fieldsOf, filledInForm}
 use Rattle.language.specs.Text.Trees.{Amount, Plan, Test}
-use Rattle.measures.proofs.Plans.{later-ready, plan-is, within-ready}
+use Rattle.measures.proofs.Plans.{plan-is}
 use Rattle.measures.specs.Ready.{PlanReady}
-use Rattle.nodes.specs.declared.PlanLetter.{PlanLetter}
-use Rattle.nodes.specs.declared.PlanLetter.the-variants.{Both, Later, NoPlan, Nothing, Scale, Transfer, Within}
 use Rattle.nodes.specs.Found.{amountAt, offsetOf, planAt, planBy, testAt}
 use Rattle.nodes.specs.Letters.{planLetter}
 use Rattle.nodes.specs.Table.{linkAt, natOf, slotAt}
+use Rattle.nodes.specs.declared.PlanLetter.the-variants.{Both, Later, NoPlan, Nothing, Scale, Transfer, Within}
+use Rattle.nodes.specs.declared.PlanLetter.{PlanLetter}
+use borrow.Author.Tests.{ltb-false, ltb-true}
+use lib.IntN.{_+ℤ_, pos, ℤ}
+use lib.Signed.{ltZ}
+use mathlib.Core.Bool.{false, true}
+use mathlib.Core.List.{List}
+use mathlib.Core.Path.{_∙_, _≡_, ap, ap₂}
+use mir.Facts.{toZ-ofZ}
+use mir.Syntax.{w64}
+use mir.Val.{SFits}
+use native.Mathlib.Omega.{arith}
 
 -- ---- the greater of two months
 

@@ -1,12 +1,20 @@
 -- Laws of the walks.
 pub mod AmountMagnitudes
 pub mod Amounts
+pub mod BlocksLaid
 pub mod Fields
+pub mod FilledReady
+pub mod FirstParts
 pub mod Firsts
 pub mod Joins
 pub mod Latests
 pub mod Lengths
 pub mod PlanMagnitudes
 pub mod PlanReadings
+pub mod PlanRows
 pub mod Plans
 pub mod Readings
+pub mod RowLetters
+pub mod RowsTogether
+pub mod SameReads
+pub mod Windows

@@ -1,33 +1,30 @@
 -- What each letter shows of the magnitude of a plan.
 use Prim.Native.Nat.{_*_, _+_, _-_, _≤_, max, ℕ}
-use borrow.Author.Tests.{leb-true}
-use lib.IntN.{pos, ℤ}
-use mathlib.Core.Bool.{Bool, _&&_, false, true}
-use mathlib.Core.List.{List}
-use mathlib.Core.Path.{_≡_, refl}
 use Rattle.language.proofs.Truth.{and-e}
 use Rattle.language.specs.Limits.{maxAmount, maxNodes}
 use Rattle.language.specs.Rules.Measures.{magnitudeOf, magnitudeOfAmount}
 use Rattle.language.specs.Rules.Tests.{amountSmall, planSmall, testSmall}
-use Rattle.language.specs.Text.Trees.{Amount, Plan, both, later, nothing, scale, transfer, within}
-use Rattle.measures.proofs.Joins.{again, joined-measured, kept-measured}
+use Rattle.language.specs.Text.Trees.{Plan, both, later, nothing, scale, transfer, within}
+use Rattle.measures.proofs.Joins.{again, joined-measured, kept-measured, third}
 use Rattle.measures.proofs.Plans.{plan-is}
-use Rattle.measures.specs.declared.limit.Measured.{Measured}
-use Rattle.measures.specs.declared.limit.Measured.the-variants.{Beyond, Within}
 use Rattle.measures.specs.Magnitudes.{Kept, boundIn, joined, measuredAmount, measuredPlan}
 use Rattle.measures.specs.Ready.{PlanReady}
-use Rattle.nodes.specs.declared.PlanLetter.{PlanLetter}
-use Rattle.nodes.specs.declared.PlanLetter.the-variants as plan
+use Rattle.measures.specs.declared.limit.Measured.the-variants.{Beyond, Within}
+use Rattle.measures.specs.declared.limit.Measured.{Measured}
 use Rattle.nodes.specs.Found.{amountAt, offsetOf, planAt, testAt}
 use Rattle.nodes.specs.Letters.{planLetter}
 use Rattle.nodes.specs.Table.{linkAt, natOf, slotAt}
+use Rattle.nodes.specs.declared.PlanLetter.the-variants as plan
+use Rattle.nodes.specs.declared.PlanLetter.{PlanLetter}
+use borrow.Author.Tests.{leb-true}
+use lib.IntN.{pos, ℤ}
+use mathlib.Core.Bool.{Bool, false, true}
+use mathlib.Core.List.{List}
+use mathlib.Core.Path.{_≡_, refl}
 
 -- ---- where a plan is small, its magnitude is within the limit
 
 module _ (bound : ℕ → ℕ) where
-  third : (p q r : Bool) → (p && (q && r)) ≡ true → r ≡ true
-  third p q r e = and-e q r (and-e p (q && r) e .1) .1
-
   plan-limit : (x : Plan ℕ) → planSmall bound x ≡ true → magnitudeOf bound x ≤ maxAmount
   unfolding planSmall
   plan-limit nothing e = leb-true _ _ e

@@ -1,79 +1,34 @@
--- What can be read, the months that a walk carries, and what each letter shows of the reads of an amount or test.
-use Prim.Native.Nat.{_*_, _+_, _-_, _<_, _≤_, ℕ}
-use borrow.Author.Tests.{le-leb, le-ltb, lt-leb, lt-ltb}
-use lib.Dec.{T}
+-- What can be read from a node that may stand in several months, and the reads of rows that stand together.
+use Prim.Native.Nat.{_+_, _-_, _<_, _≤_, suc, zero, ℕ}
+use Rattle.integers.proofs.Solver.{_⊕_, _⊖_, dn, le-parts, lit, sound, up, var, ⊝}
+use Rattle.integers.proofs.Tests.{le-false, le-true}
+use Rattle.integers.specs.Bounded.{Small}
+use Rattle.integers.specs.declared.Month.{Month}
+use Rattle.language.proofs.Truth.{tested}
+use Rattle.language.specs.Limits.{maxNodes}
+use Rattle.language.specs.Rules.Table.{readable}
+use Rattle.language.specs.Rules.Tests.{amountReads, testReads}
+use Rattle.measures.proofs.Fields.{whole}
+use Rattle.measures.proofs.RowsTogether.{Joins, amount-rows, test-rows}
+use Rattle.measures.specs.Blocks.{AmountBlock, TestBlock}
+use Rattle.measures.specs.Rows.{inWindow, rowReads, rowsOf, rowsRead}
+use Rattle.measures.specs.Spans.{InReach, tableOf, windowOf}
+use Rattle.measures.specs.declared.reads.Reach.{Reach}
+use Rattle.measures.specs.declared.reads.Window.{Window}
+use Rattle.nodes.specs.Found.{amountAt, offsetOf, testAt}
+use Rattle.nodes.specs.Table.{natOf}
+use lib.Dec.{T, ltb}
 use lib.IntN.{_+ℤ_, _-ℤ_, negsuc, negℤ, pos, ℤ}
 use lib.ListN.{length-replicate}
-use lib.Signed.{leZ, ltZ, nonNeg}
-use mathlib.Core.Bool.{Bool, _&&_, false, false≢true, true, true≢false}
+use lib.Signed.{leZ, nonNeg}
+use mathlib.Core.Bool.{Bool, _&&_, and-assoc, and-false, and-true, false, true}
 use mathlib.Core.List.{List}
-use mathlib.Core.Path.{_∙_, _≡_, ap, ap₂, refl, subst, sym}
-use mir.Facts.{toZ-ofZ}
-use mir.Syntax.{w64}
-use mir.Val.{SFits}
+use mathlib.Core.Path.{_∙_, _≡_, ap, ap₂, refl, sym}
 use native.Mathlib.Omega.{arith}
-use Rattle.integers.proofs.Laws.{natAbs-le}
-use Rattle.integers.proofs.Locals.{rd}
-use Rattle.integers.proofs.Solver.{parts-le}
-use Rattle.integers.proofs.Tests.{lt-false, lt-true}
-use Rattle.integers.specs.Bounded.{Small, amountLimit}
-use Rattle.integers.specs.declared.Month.{Month}
-use Rattle.language.specs.Limits.{maxMonths}
-use Rattle.language.specs.Rules.Table.{Table, readable}
-use Rattle.language.specs.Rules.Tests.{amountReads, testReads}
-use Rattle.language.specs.Text.Form.{offsetInForm}
-use Rattle.measures.proofs.Amounts.{amount-is, test-is}
-use Rattle.measures.proofs.Fields.{back-reads}
-use Rattle.measures.specs.declared.reads.Reach.{Reach}
-use Rattle.measures.specs.Ready.{AmountReady, TestReady}
-use Rattle.measures.specs.Spans.{InReach, tableOf}
-use Rattle.nodes.specs.declared.AmountLetter.{AmountLetter}
-use Rattle.nodes.specs.declared.AmountLetter.the-variants as amount
-use Rattle.nodes.specs.declared.TestLetter.{TestLetter}
-use Rattle.nodes.specs.declared.TestLetter.the-variants as test
-use Rattle.nodes.specs.Found.{amountAt, offsetOf, testAt}
-use Rattle.nodes.specs.Letters.{amountLetter, testLetter}
-use Rattle.nodes.specs.Table.{linkAt, natOf, slotAt}
-
--- ---- a label and a month
-
-lt-not-le : (a b : ℤ) → ltZ a b ≡ true → leZ b a ≡ false
-lt-not-le (pos a) (pos b) e = lt-leb b a (omega (arith, lt-true (pos a) (pos b) e))
-lt-not-le (pos a) (negsuc b) e = absurd (false≢true e)
-lt-not-le (negsuc a) (pos b) e = refl
-lt-not-le (negsuc a) (negsuc b) e = lt-leb a b (omega (arith, lt-true (negsuc a) (negsuc b) e))
-
-not-lt-le : (a b : ℤ) → ltZ a b ≡ false → leZ b a ≡ true
-not-lt-le (pos a) (pos b) e = le-leb b a (omega (arith, lt-false (pos a) (pos b) e))
-not-lt-le (pos a) (negsuc b) e = refl
-not-lt-le (negsuc a) (pos b) e = absurd (true≢false e)
-not-lt-le (negsuc a) (negsuc b) e = le-leb a b (omega (arith, lt-false (negsuc a) (negsuc b) e))
-
-module _ (span : Reach) (label : ℕ) (m : ℤ) where
-  pub no-label : span .labels ≤ label → false ≡ readable (tableOf span) label m
-  no-label b = rw (length-replicate (span .labels) (pos 0), le-ltb label (span .labels) b) refl
-
-  module _ (b : label < span .labels) (s : Small (span .h)) (f : SFits w64 (span .h)) (g : SFits w64 m) where
-    pub too-early : ltZ (rd m) (rd (pos 0 -ℤ rd (span .h))) ≡ true → false ≡ readable (tableOf span) label m
-    too-early t =
-        let u : ltZ m (negℤ (span .h)) ≡ true = rw (toZ-ofZ g, back-reads s f) at t in
-        rw (length-replicate (span .labels) (pos 0), lt-ltb label (span .labels) b, lt-not-le m (negℤ (span .h)) u) refl
-
-    pub not-early : SFits w64 (span .f) → ltZ (rd m) (rd (pos 0 -ℤ rd (span .h))) ≡ false → leZ (rd m) (rd (span .f)) ≡ readable (tableOf span) label m
-    not-early k t =
-        let u : ltZ m (negℤ (span .h)) ≡ false = rw (toZ-ofZ g, back-reads s f) at t in
-        rw (length-replicate (span .labels) (pos 0), lt-ltb label (span .labels) b, not-lt-le m (negℤ (span .h)) u, toZ-ofZ g, toZ-ofZ k) refl
 
 -- ---- months
 
-pub offset-small : {i : ℤ} → offsetInForm i → Small i
-offset-small {i} o = record { small = natAbs-le i amountLimit (omega (arith, parts-le (o .1))) (omega (arith, parts-le (o .0))) }
-
-whole-month : (z : ℤ) → T (nonNeg z) → z ≡ pos (natOf z)
-whole-month (pos n) t = refl
-whole-month (negsuc n) t = absurd t
-
-month-small : (z : ℤ) → T (nonNeg z) → natOf z ≤ 40_000 → Small z
+month-small : (z : ℤ) → T (nonNeg z) → natOf z ≤ 20_000 → Small z
 month-small (pos n) t b = record { small = omega arith }
 month-small (negsuc n) t b = absurd t
 
@@ -88,93 +43,113 @@ module _ {left : ℕ} {first last : Month} {span : Reach} (h : InReach left firs
   pub last-small : Small (last .0)
   last-small = month-small (last .0) (h .lastFrom) (omega (arith, h .lastRoom))
 
-  pub first-whole : first .0 ≡ pos (natOf (first .0))
-  first-whole = whole-month (first .0) (h .firstFrom)
+-- ---- the window: what can be read from both months
 
-  pub last-whole : last .0 ≡ pos (natOf (last .0))
-  last-whole = whole-month (last .0) (h .lastFrom)
+same-test : (p q r s : ℤ) → (up p + dn q ≤ up q + dn p → up r + dn s ≤ up s + dn r) → (up r + dn s ≤ up s + dn r → up p + dn q ≤ up q + dn p) → leZ p q ≡ leZ r s
+same-test p q r s there back = by (leZ p q) (leZ r s) refl refl
+  where
+    by : (b c : Bool) → leZ p q ≡ b → leZ r s ≡ c → b ≡ c
+    by true true e f = refl
+    by true false e f = absurd (omega (arith, there (le-true p q e), le-false r s f))
+    by false true e f = absurd (omega (arith, back (le-true r s f), le-false p q e))
+    by false false e f = refl
 
--- ---- an `O`
+low-is : (h i : ℤ) (a : ℕ) → leZ (negℤ h) (pos a +ℤ i) ≡ leZ (pos 0 -ℤ (h +ℤ pos a)) i
+low-is h i a =
+    let x = sound (⊝ (var h)) in
+    let y = sound (lit a ⊕ var i) in
+    let z = sound (lit 0 ⊖ (var h ⊕ lit a)) in
+    same-test (negℤ h) (pos a +ℤ i) (pos 0 -ℤ (h +ℤ pos a)) i (λ k. omega (arith, x, y, z, k)) (λ k. omega (arith, x, y, z, k))
 
-pub index-reads : (t : Table) (first last : ℤ) {l k : ℕ} {a z i j : ℤ} {x y : Bool} → l ≡ k → i ≡ j → a ≡ first +ℤ i → z ≡ last +ℤ i
-    → x ≡ readable t l a → y ≡ readable t l z → (x && y) ≡ (readable t k (first +ℤ j) && readable t k (last +ℤ j))
-index-reads t first last el ei ea ez ex ey =
-    ap₂ _&&_ (ex ∙ ap₂ (readable t) el (ea ∙ ap (λ w. first +ℤ w) ei)) (ey ∙ ap₂ (readable t) el (ez ∙ ap (λ w. last +ℤ w) ei))
+high-is : (f i : ℤ) (z : ℕ) → leZ (pos z +ℤ i) f ≡ leZ i (f -ℤ pos z)
+high-is f i z =
+    let x = sound (lit z ⊕ var i) in
+    let y = sound (var f ⊖ lit z) in
+    same-test (pos z +ℤ i) f i (f -ℤ pos z) (λ k. omega (arith, x, y, k)) (λ k. omega (arith, x, y, k))
 
--- ---- amounts and tests
+le-known : (p q : ℤ) → up p + dn q ≤ up q + dn p → leZ p q ≡ true
+le-known p q h = tested (leZ p q) (le-parts p q h .le)
 
--- what the amount or test at a node reads
-abbrev readsAt : Table → ℕ → ℕ → ℕ → List ℤ → ℕ → Bool
-readsAt t a z left nodes p = amountReads t a z (amountAt offsetOf left nodes p)
+later-low : (b i : ℤ) (a z : ℕ) → a ≤ z → leZ b (pos a +ℤ i) ≡ true → leZ b (pos z +ℤ i) ≡ true
+later-low b i a z h e = le-known b (pos z +ℤ i) (omega (arith, sound (lit a ⊕ var i), sound (lit z ⊕ var i), le-true b (pos a +ℤ i) e))
 
-abbrev testReadsAt : Table → ℕ → ℕ → ℕ → List ℤ → ℕ → Bool
-testReadsAt t a z left nodes p = testReads t a z (testAt offsetOf left nodes p)
+sooner-high : (b i : ℤ) (a z : ℕ) → a ≤ z → leZ (pos z +ℤ i) b ≡ true → leZ (pos a +ℤ i) b ≡ true
+sooner-high b i a z h e = le-known (pos a +ℤ i) b (omega (arith, sound (lit a ⊕ var i), sound (lit z ⊕ var i), le-true (pos z +ℤ i) b e))
 
-module _ (t : Table) (a z : ℕ) {left at : ℕ} {nodes : List ℤ} where
-  module _ (h : AmountReady left nodes at) {l : AmountLetter} (e : l ≡ amountLetter (slotAt nodes at 0)) where
-    abbrev whole : Bool
-    whole = amountReads t a z (amountAt offsetOf left nodes at)
+ends : (p l h m k : Bool) → (l ≡ true → m ≡ true) → (k ≡ true → h ≡ true) → ((p && (l && h)) && (p && (m && k))) ≡ (p && (l && k))
+ends false l h m k f g = refl
+ends true false h m k f g = refl
+ends true true h m true f g = rw (f refl, g refl) refl
+ends true true h m false f g = rw (f refl, and-false h) refl
 
-    pub number-reads : l ≡ amount.Number → true ≡ whole
-    unfolding amountReads
-    number-reads q = rw (amount-is h e q)
+module _ {left : ℕ} {first last : Month} {span : Reach} (m : InReach left first last span) where
+  abbrev a : ℕ
+  a = natOf (first .0)
 
-    pub no-amount-reads : l ≡ amount.NoAmount → true ≡ whole
-    unfolding amountReads
-    no-amount-reads q = rw (amount-is h e q)
+  abbrev z : ℕ
+  z = natOf (last .0)
 
-    pub index-reads-arm : l ≡ amount.Index → {first last : ℤ} → first ≡ pos a → last ≡ pos z → {r : Bool}
-        → r ≡ (readable t (natOf (slotAt nodes at 1)) (first +ℤ slotAt nodes at 2) && readable t (natOf (slotAt nodes at 1)) (last +ℤ slotAt nodes at 2)) → r ≡ whole
-    unfolding amountReads
-    index-reads-arm q ef el er =
-        rw (amount-is h e q)
-        (er ∙ ap₂ (λ u w. readable t (natOf (slotAt nodes at 1)) (u +ℤ slotAt nodes at 2) && readable t (natOf (slotAt nodes at 1)) (w +ℤ slotAt nodes at 2)) ef el)
+  window-reads : (l : ℕ) (i : ℤ) → (readable (tableOf span) l (pos a +ℤ i) && readable (tableOf span) l (pos z +ℤ i)) ≡ inWindow (windowOf first last span) l i
+  window-reads l i =
+      rw (length-replicate (span .labels) (pos 0))
+      (ends (ltb l (span .labels)) (leZ (negℤ (span .h)) (pos a +ℤ i)) (leZ (pos a +ℤ i) (span .f)) (leZ (negℤ (span .h)) (pos z +ℤ i)) (leZ (pos z +ℤ i) (span .f))
+      (later-low (negℤ (span .h)) i a z (m .order)) (sooner-high (span .f) i a z (m .order))
+      ∙ ap₂ (λ b c. ltb l (span .labels) && (b && c))
+      (low-is (span .h) i a ∙ ap (λ w. leZ (pos 0 -ℤ (span .h +ℤ w)) i) (sym (whole (first .0) (m .firstFrom))))
+      (high-is (span .f) i z ∙ ap (λ w. leZ i (span .f -ℤ w)) (sym (whole (last .0) (m .lastFrom)))))
 
-    pub sum-reads : l ≡ amount.Sum → {r : Bool} → r ≡ (readsAt t a z (left - 1) nodes (at + 1) && readsAt t a z (left - 1) nodes (linkAt nodes at 3)) → r ≡ whole
-    unfolding amountReads
-    sum-reads q er = rw (amount-is h e q) er
+  reads-join : Joins true _&&_ (λ l i. inWindow (windowOf first last span) l i) (amountReads (tableOf span) a z) (testReads (tableOf span) a z)
+  unfolding amountReads testReads
+  reads-join = record {
+    first-none = λ x. refl;
+    second-none = and-true;
+    assoc = and-assoc;
+    of-number = λ n. refl;
+    of-index = λ l i. window-reads l i;
+    of-sum = λ x y. refl;
+    of-difference = λ x y. refl;
+    of-product = λ x y. refl;
+    of-quotient = λ n x. refl;
+    of-choose = λ c x y. refl;
+    of-less = λ x y. refl;
+    of-equal = λ x y. refl;
+    of-conjunction = λ x y. refl;
+    of-disjunction = λ x y. refl;
+    of-negation = λ x. refl;
+  }
 
-    pub difference-reads : l ≡ amount.Difference → {r : Bool} → r ≡ (readsAt t a z (left - 1) nodes (at + 1) && readsAt t a z (left - 1) nodes (linkAt nodes at 3)) → r ≡ whole
-    unfolding amountReads
-    difference-reads q er = rw (amount-is h e q) er
+  -- ---- an amount's and a test's
 
-    pub product-reads : l ≡ amount.Product → {r : Bool} → r ≡ (readsAt t a z (left - 1) nodes (at + 1) && readsAt t a z (left - 1) nodes (linkAt nodes at 3)) → r ≡ whole
-    unfolding amountReads
-    product-reads q er = rw (amount-is h e q) er
+  pub amount-reads : (nodes : List ℤ) (from to : ℕ) → AmountBlock maxNodes nodes from to
+      → (from < to) × (rowsRead (windowOf first last span) nodes (to - from) from ≡ amountReads (tableOf span) a z (amountAt offsetOf maxNodes nodes from))
+  amount-reads nodes from to b = let r = amount-rows reads-join nodes maxNodes from to b in (r .some, r .gives)
 
-    pub quotient-reads : l ≡ amount.Quotient → {r : Bool} → r ≡ readsAt t a z (left - 1) nodes (at + 1) → r ≡ whole
-    unfolding amountReads
-    quotient-reads q er = rw (amount-is h e q) er
+  pub test-reads : (nodes : List ℤ) (from to : ℕ) → TestBlock maxNodes nodes from to
+      → (from < to) × (rowsRead (windowOf first last span) nodes (to - from) from ≡ testReads (tableOf span) a z (testAt offsetOf maxNodes nodes from))
+  test-reads nodes from to b = let r = test-rows reads-join nodes maxNodes from to b in (r .some, r .gives)
 
-    pub choose-reads : l ≡ amount.Choose → {m n : ℕ} → m ≡ linkAt nodes at 3 → n ≡ linkAt nodes at 4 → {c x y : Bool}
-        → c ≡ testReadsAt t a z (left - 1) nodes (at + 1) → x ≡ readsAt t a z (left - 1) nodes m → y ≡ readsAt t a z (left - 1) nodes n → (c && (x && y)) ≡ whole
-    unfolding amountReads
-    choose-reads q em en ec ex ey = rw (amount-is h e q, ← em, ← en) (ap₂ _&&_ ec (ap₂ _&&_ ex ey))
+-- ---- the loop: every row that was passed can be read
 
-  module _ (h : TestReady left nodes at) {l : TestLetter} (e : l ≡ testLetter (slotAt nodes at 0)) where
-    abbrev wholeTest : Bool
-    wholeTest = testReads t a z (testAt offsetOf left nodes at)
+pub record Passed (w : Window) (nodes : List ℤ) (from to at : ℕ) : Type 0 where
+  pub low : from ≤ at
+  pub high : at ≤ to
+  pub left : rowsRead w nodes (to - from) from ≡ rowsRead w nodes (to - at) at
 
-    pub less-reads : l ≡ test.Less → {r : Bool} → r ≡ (readsAt t a z (left - 1) nodes (at + 1) && readsAt t a z (left - 1) nodes (linkAt nodes at 3)) → r ≡ wholeTest
-    unfolding testReads
-    less-reads q er = rw (test-is h e q) er
+module _ {w : Window} {nodes : List ℤ} {from to at : ℕ} (p : Passed w nodes from to at) where
+  next : at < to → rowsRead w nodes (to - from) from ≡ (rowReads w nodes at && rowsRead w nodes (to - (at + 1)) (at + 1))
+  unfolding rowsOf
+  next h =
+      let n : to - at ≡ suc (to - (at + 1)) = omega arith in
+      p .left ∙ ap (λ k. rowsRead w nodes k at) n
 
-    pub equal-reads : l ≡ test.Equal → {r : Bool} → r ≡ (readsAt t a z (left - 1) nodes (at + 1) && readsAt t a z (left - 1) nodes (linkAt nodes at 3)) → r ≡ wholeTest
-    unfolding testReads
-    equal-reads q er = rw (test-is h e q) er
+  pub passed-row : at < to → rowReads w nodes at ≡ true → Passed w nodes from to (at + 1)
+  passed-row h e = record { low = omega (arith, p .low); high = omega arith; left = next h ∙ ap (λ b. b && rowsRead w nodes (to - (at + 1)) (at + 1)) e }
 
-    pub conjunction-reads : l ≡ test.Conjunction → {r : Bool} → r ≡ (testReadsAt t a z (left - 1) nodes (at + 1) && testReadsAt t a z (left - 1) nodes (linkAt nodes at 3)) → r ≡ wholeTest
-    unfolding testReads
-    conjunction-reads q er = rw (test-is h e q) er
+  pub passed-not : at < to → rowReads w nodes at ≡ false → false ≡ rowsRead w nodes (to - from) from
+  passed-not h e = sym (next h ∙ ap (λ b. b && rowsRead w nodes (to - (at + 1)) (at + 1)) e)
 
-    pub disjunction-reads : l ≡ test.Disjunction → {r : Bool} → r ≡ (testReadsAt t a z (left - 1) nodes (at + 1) && testReadsAt t a z (left - 1) nodes (linkAt nodes at 3)) → r ≡ wholeTest
-    unfolding testReads
-    disjunction-reads q er = rw (test-is h e q) er
-
-    pub negation-reads : l ≡ test.Negation → {r : Bool} → r ≡ testReadsAt t a z (left - 1) nodes (at + 1) → r ≡ wholeTest
-    unfolding testReads
-    negation-reads q er = rw (test-is h e q) er
-
-    pub no-test-reads : l ≡ test.NoTest → true ≡ wholeTest
-    unfolding testReads amountReads
-    no-test-reads q = rw (test-is h e q)
+  pub passed-all : to ≤ at → true ≡ rowsRead w nodes (to - from) from
+  unfolding rowsOf
+  passed-all h =
+      let n : to - at ≡ zero = omega arith in
+      sym (p .left ∙ ap (λ k. rowsRead w nodes k at) n)

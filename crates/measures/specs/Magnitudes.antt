@@ -1,15 +1,8 @@
 -- The answers for magnitude: the magnitude itself, or beyond where it is beyond the limit at the node or at one beneath.
 use Prim.Native.Nat.{ℕ}
-use lib.Dec.{T, leb}
-use lib.IntN.{natAbs, pos, ℤ}
-use lib.ListN.{getD}
-use lib.Signed.{nonNeg}
-use mathlib.Core.Bool.{Bool, cond, false, true}
-use mathlib.Core.List.{List}
-use mathlib.Core.Path.{_≡_}
 use Rattle.integers.specs.Bounded.{Small}
-use Rattle.integers.specs.declared.Bounded.{Bounded}
 use Rattle.integers.specs.declared.Bounded.the-variants as bounded
+use Rattle.integers.specs.declared.Bounded.{Bounded}
 use Rattle.integers.specs.declared.Pence.{Pence}
 use Rattle.language.specs.Limits.{maxAmount}
 use Rattle.language.specs.Rules.Measures.{magnitudeOf, magnitudeOfAmount}
@@ -17,9 +10,16 @@ use Rattle.language.specs.Rules.Table.{allOf}
 use Rattle.language.specs.Rules.Tests.{amountSmall, planSmall}
 use Rattle.language.specs.Text.Number.{between}
 use Rattle.language.specs.Text.Trees.{Amount, Plan}
-use Rattle.measures.specs.declared.limit.Measured.{Measured}
 use Rattle.measures.specs.declared.limit.Measured.the-variants.{Beyond, Within}
+use Rattle.measures.specs.declared.limit.Measured.{Measured}
 use Rattle.nodes.specs.Table.{natOf}
+use lib.Dec.{T, leb}
+use lib.IntN.{natAbs, pos, ℤ}
+use lib.ListN.{getD}
+use lib.Signed.{nonNeg}
+use mathlib.Core.Bool.{Bool, cond, false, true}
+use mathlib.Core.List.{List}
+use mathlib.Core.Path.{_≡_}
 
 -- the magnitude n, where it is within the limit everywhere
 abbrev pub measured : Bool → ℕ → Measured

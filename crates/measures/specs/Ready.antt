@@ -1,12 +1,13 @@
 -- A plan, amount or test that can be walked from a node on: the walk stays in the table, and every field is in form.
 use Prim.Native.Nat.{_+_, _<_, _≤_, ℕ}
-use lib.IntN.{ℤ}
-use mathlib.Core.List.{List}
 use Rattle.language.specs.Limits.{maxDepth, maxNodes}
 use Rattle.language.specs.Text.Form.{fieldsOf, fieldsOfAmount, fieldsOfTest, filledInForm, offsetInForm}
+use Rattle.measures.specs.Blocks.{PlanBlocks}
 use Rattle.nodes.specs.Found.{amountAt, offsetOf, planAt, testAt}
 use Rattle.nodes.specs.Stands.{AmountStands, Forward, PlanStands, TestStands}
 use Rattle.nodes.specs.Table.{linkAt, natOf}
+use lib.IntN.{ℤ}
+use mathlib.Core.List.{List}
 
 pub record AmountReady (left : ℕ) (nodes : List ℤ) (at : ℕ) : Type 0 where
   pub stands : AmountStands left nodes at
@@ -21,6 +22,7 @@ pub record PlanReady (left : ℕ) (nodes : List ℤ) (at : ℕ) : Type 0 where
   pub depth : left ≤ maxDepth
   pub stands : PlanStands left nodes at
   pub fields : fieldsOf filledInForm (planAt natOf left nodes at)
+  pub blocks : PlanBlocks left nodes at
 
 -- the two amounts, or the two tests, below a node
 pub record AmountsReady (left : ℕ) (nodes : List ℤ) (at : ℕ) : Type 0 where

@@ -1,16 +1,16 @@
 -- What reads look at in a table, and the months in which a node may stand.
 use Prim.Native.Nat.{_*_, _+_, _≤_, ℕ}
-use lib.Dec.{T}
-use lib.IntN.{pos, ℤ}
-use lib.ListN.{replicate}
-use lib.Signed.{nonNeg}
-use mathlib.Core.List.{[]}
-use Rattle.integers.specs.Bounded.{Small}
 use Rattle.integers.specs.declared.Month.{Month}
 use Rattle.language.specs.Limits.{maxMonths}
 use Rattle.language.specs.Rules.Table.{Table}
 use Rattle.measures.specs.declared.reads.Reach.{Reach}
+use Rattle.measures.specs.declared.reads.Window.{Window}
 use Rattle.nodes.specs.Table.{natOf}
+use lib.Dec.{T}
+use lib.IntN.{_+ℤ_, _-ℤ_, natAbs, pos}
+use lib.ListN.{replicate}
+use lib.Signed.{nonNeg}
+use mathlib.Core.List.{[]}
 
 -- a table with these months and as many labels
 abbrev pub tableOf : Reach → Table
@@ -20,6 +20,12 @@ tableOf s = record { h = s .h; f = s .f; factors = []; bounds = replicate (s .la
 pub record InReach (left : ℕ) (first last : Month) (span : Reach) : Type 0 where
   pub firstFrom : T (nonNeg (first .0))
   pub lastFrom : T (nonNeg (last .0))
-  pub firstRoom : natOf (first .0) + maxMonths * left ≤ 40_000
-  pub lastRoom : natOf (last .0) + maxMonths * left ≤ 40_000
-  pub back : Small (span .h)
+  pub firstRoom : natOf (first .0) + maxMonths * left ≤ 20_000
+  pub lastRoom : natOf (last .0) + maxMonths * left ≤ 20_000
+  pub order : natOf (first .0) ≤ natOf (last .0)
+  pub back : natAbs (span .h) ≤ maxMonths
+  pub ahead : natAbs (span .f) ≤ maxMonths
+
+-- the offsets that can be read from every month between the two
+abbrev pub windowOf : Month → Month → Reach → Window
+windowOf first last span = record { low = pos 0 -ℤ (span .h +ℤ first .0); high = span .f -ℤ last .0; labels = span .labels }

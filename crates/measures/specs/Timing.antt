@@ -1,17 +1,17 @@
 -- The answers for first and latest.
-use lib.IntN.{pos}
-use mathlib.Core.Bool.{Bool, false, true}
-use mathlib.Core.Path.{_≡_}
 use Prim.Native.Nat.{ℕ}
 use Rattle.integers.specs.Bounded.{Small}
 use Rattle.integers.specs.declared.Month.{Month}
 use Rattle.language.specs.Rules.Measures.{First, Latest, atMost, firstOf, from, never, noMonth}
 use Rattle.language.specs.Rules.Tests.{knownInTime}
 use Rattle.language.specs.Text.Trees.{Plan}
-use Rattle.measures.specs.declared.first.FirstPay.{FirstPay}
 use Rattle.measures.specs.declared.first.FirstPay.the-variants.{From, Late, Never}
-use Rattle.measures.specs.declared.latest.LatestRead.{LatestRead}
+use Rattle.measures.specs.declared.first.FirstPay.{FirstPay}
 use Rattle.measures.specs.declared.latest.LatestRead.the-variants.{AtMost, NoMonth}
+use Rattle.measures.specs.declared.latest.LatestRead.{LatestRead}
+use lib.IntN.{pos}
+use mathlib.Core.Bool.{Bool, false, true}
+use mathlib.Core.Path.{_≡_}
 
 abbrev pub latestRead : Latest → LatestRead
 latestRead noMonth = NoMonth

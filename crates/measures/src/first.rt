@@ -23,7 +23,7 @@ pub enum FirstPay {
     From(Month),
 }
 
-pub fn sooner(a: FirstPay, b: FirstPay) -> FirstPay
+fn sooner_of(a: FirstPay, b: FirstPay) -> FirstPay
     ensures { λ r. ⌜ ((p q : Bool) (x y : First) → a ≡ firstPay p x → b ≡ firstPay q y → r ≡ firstPay (p && q) (soonerOf x y)) ⌝ }
 {
     match a {
@@ -42,7 +42,7 @@ pub fn sooner(a: FirstPay, b: FirstPay) -> FirstPay
     }
 }
 
-pub fn delayed(d: Month, a: FirstPay) -> FirstPay
+fn after_delay(d: Month, a: FirstPay) -> FirstPay
     requires { ⌜ Small (d .0) × SmallPay a ⌝ }
     ensures { λ r. ⌜ ((n : ℕ) (p : Bool) (x : First) → d .0 ≡ pos n → a ≡ firstPay p x → r ≡ firstPay p (afterDelay n x)) ⌝ }
 {
@@ -54,7 +54,7 @@ pub fn delayed(d: Month, a: FirstPay) -> FirstPay
 }
 
 // What pays first, where its latest read is not after that.
-pub fn in_time(l: LatestRead, a: FirstPay) -> FirstPay
+fn in_time(l: LatestRead, a: FirstPay) -> FirstPay
     ensures { λ r. ⌜ ((y : Latest) (p : Bool) (x : First) → l ≡ latestRead y → a ≡ firstPay p x → r ≡ firstPay (notAfter y x && p) x) ⌝ }
 {
     let LatestRead::AtMost(i) = l else {
@@ -73,7 +73,7 @@ pub fn in_time(l: LatestRead, a: FirstPay) -> FirstPay
 }
 
 // What pays first, where a test's latest read is not after the month in which it is tried.
-pub fn tried_in_time(l: LatestRead, a: FirstPay) -> FirstPay
+fn tried_in_time(l: LatestRead, a: FirstPay) -> FirstPay
     ensures { λ r. ⌜ ((y : Latest) (p : Bool) (x : First) → l ≡ latestRead y → a ≡ firstPay p x → r ≡ firstPay (notAfter y (from 0) && p) x) ⌝ }
 {
     let LatestRead::AtMost(i) = l else {
@@ -94,25 +94,27 @@ pub fn plan_first(nodes: &[i64; 2560], at: usize, left: usize) -> FirstPay
         PlanLetter::Nothing => FirstPay::Never,
         PlanLetter::Transfer => FirstPay::From(Month(0)),
         PlanLetter::Scale => {
-            let l = latest::amount_latest(nodes, at + 1, 512);
-            let x = plan_first(nodes, nodes::link(nodes, at, 3), left - 1);
+            let next = nodes::link(nodes, at, 3);
+            let l = latest::rows_latest(nodes, at + 1, next);
+            let x = plan_first(nodes, next, left - 1);
             in_time(l, x)
         }
         PlanLetter::Later => {
             let d = node::delay(nodes, at);
             let x = plan_first(nodes, at + 1, left - 1);
-            delayed(d, x)
+            after_delay(d, x)
         }
         PlanLetter::Both => {
             let x = plan_first(nodes, at + 1, left - 1);
             let y = plan_first(nodes, nodes::link(nodes, at, 3), left - 1);
-            sooner(x, y)
+            sooner_of(x, y)
         }
         PlanLetter::Within => {
-            let l = latest::test_latest(nodes, at + 1, 512);
-            let x = plan_first(nodes, nodes::link(nodes, at, 3), left - 1);
+            let next = nodes::link(nodes, at, 3);
+            let l = latest::rows_latest(nodes, at + 1, next);
+            let x = plan_first(nodes, next, left - 1);
             let y = plan_first(nodes, nodes::link(nodes, at, 4), left - 1);
-            tried_in_time(l, sooner(x, y))
+            tried_in_time(l, sooner_of(x, y))
         }
         PlanLetter::NoPlan => FirstPay::Never,
     }

@@ -10,7 +10,7 @@ use crate::node;
 use integers::Month;
 use nodes::PlanLetter;
 
-pub fn longer(a: Month, b: Month) -> Month
+fn longer(a: Month, b: Month) -> Month
     ensures { λ r. ⌜ ((m n : ℕ) → a .0 ≡ pos m → b .0 ≡ pos n → r .0 ≡ pos (max m n)) ⌝ }
 {
     if a.0 < b.0 {

@@ -16,7 +16,7 @@ pub struct Two {
     pub second: Measured,
 }
 
-pub fn taken(b: Bounded) -> Measured
+fn measured_of(b: Bounded) -> Measured
     ensures { λ r. ⌜ r ≡ measuredOf b ⌝ }
 {
     match b {
@@ -37,7 +37,7 @@ pub fn sum_of(two: Two) -> Measured
     let Measured::Within(y) = b else {
         return Measured::Beyond;
     };
-    taken(integers::sum(x, y))
+    measured_of(integers::sum(x, y))
 }
 
 pub fn product_of(two: Two) -> Measured
@@ -52,7 +52,7 @@ pub fn product_of(two: Two) -> Measured
     let Measured::Within(y) = b else {
         return Measured::Beyond;
     };
-    taken(integers::product(x, y))
+    measured_of(integers::product(x, y))
 }
 
 pub fn greater_of(two: Two) -> Measured

@@ -24,7 +24,7 @@ use nodes::TestLetter;
 // ---- a node's own
 
 // The distance from zero of an `N`.
-pub fn distance(nodes: &[i64; 2560], at: usize) -> Pence
+fn distance(nodes: &[i64; 2560], at: usize) -> Pence
     requires { ⌜ (at < 512) × Small (slotAt (now nodes) at 1) ⌝ }
     ensures { λ r. ⌜ r .0 ≡ pos (natAbs (slotAt (now (nodes .entry)) at 1)) ⌝ }
 {
@@ -36,7 +36,7 @@ pub fn distance(nodes: &[i64; 2560], at: usize) -> Pence
 }
 
 // A label's bound, 0 for an absent label.
-pub fn bound_of(bounds: &[i64], l: usize) -> Pence
+fn bound_of(bounds: &[i64], l: usize) -> Pence
     requires { ⌜ InBounds (now bounds) ⌝ }
     ensures { λ r. ⌜ r .0 ≡ pos (boundIn (now (bounds .entry)) l) ⌝ }
 {
@@ -93,7 +93,7 @@ pub fn test_small(nodes: &[i64; 2560], at: usize, left: usize, bounds: &[i64]) -
 }
 
 // The two amounts below a node.
-pub fn two_amounts(nodes: &[i64; 2560], at: usize, left: usize, bounds: &[i64]) -> Two
+fn two_amounts(nodes: &[i64; 2560], at: usize, left: usize, bounds: &[i64]) -> Two
     requires { ⌜ AmountsReady left (now nodes) at × InBounds (now bounds) ⌝ }
     ensures { λ r. ⌜
         (r .first ≡ measuredAmount (boundIn (now (bounds .entry))) (amountAt offsetOf left (now (nodes .entry)) (at + 1))) ×
@@ -108,7 +108,7 @@ pub fn two_amounts(nodes: &[i64; 2560], at: usize, left: usize, bounds: &[i64]) 
 }
 
 // The two tests below a node.
-pub fn two_tests(nodes: &[i64; 2560], at: usize, left: usize, bounds: &[i64]) -> bool
+fn two_tests(nodes: &[i64; 2560], at: usize, left: usize, bounds: &[i64]) -> bool
     requires { ⌜ TestsReady left (now nodes) at × InBounds (now bounds) ⌝ }
     ensures { λ r. ⌜ r ≡
         (testSmall (boundIn (now (bounds .entry))) (testAt offsetOf left (now (nodes .entry)) (at + 1)) &&

@@ -4,6 +4,7 @@ ghost use Prim.Native.Nat.{_<_};
 ghost use lib.IntN.{pos};
 ghost use Rattle.nodes.specs.Letters.{planLetter, amountLetter, testLetter};
 ghost use Rattle.nodes.specs.Table.{slotAt, natOf};
+ghost use Rattle.measures.specs.Rows.{isIndex};
 use integers::Month;
 use nodes::AmountLetter;
 use nodes::PlanLetter;
@@ -40,6 +41,14 @@ pub fn delay(nodes: &[i64; 2560], at: usize) -> Month
         return Month(0);
     }
     Month(d)
+}
+
+pub fn is_index(nodes: &[i64; 2560], at: usize) -> bool
+    requires { ⌜ at < 512 ⌝ }
+    ensures { λ r. ⌜ r ≡ isIndex (slotAt (now (nodes .entry)) at 0) ⌝ }
+{
+    let x = nodes::slot(nodes, at, 0);
+    x == 79
 }
 
 // The offset of an `O`.

@@ -1,20 +1,15 @@
 // Whether every month that a plan may read lies in the table, its label too.
 ghost use mathlib.Core.Path.{_≡_};
-ghost use mathlib.Core.Bool.{_&&_};
-ghost use Prim.Native.Nat.{_+_, _<_};
-ghost use lib.IntN.{_+ℤ_, pos};
-ghost use Rattle.integers.specs.Bounded.{Small};
-ghost use Rattle.language.specs.Rules.Table.{readable};
-ghost use Rattle.language.specs.Rules.Tests.{amountReads, planReads, testReads};
-ghost use Rattle.nodes.specs.Found.{amountAt, offsetOf, planAt, testAt};
-ghost use Rattle.nodes.specs.Table.{linkAt, natOf, slotAt};
-ghost use Rattle.measures.specs.Ready.{AmountReady, TestReady, AmountsReady, TestsReady, PlanReady};
-ghost use Rattle.measures.specs.Spans.{InReach, tableOf};
+ghost use Prim.Native.Nat.{_-_, _≤_, _<_};
+ghost use Rattle.language.specs.Rules.Tests.{planReads};
+ghost use Rattle.nodes.specs.Found.{planAt};
+ghost use Rattle.nodes.specs.Table.{natOf};
+ghost use Rattle.measures.specs.Ready.{PlanReady};
+ghost use Rattle.measures.specs.Rows.{rowReads, rowsRead};
+ghost use Rattle.measures.specs.Spans.{InReach, tableOf, windowOf};
 use crate::node;
 use integers::Month;
-use nodes::AmountLetter;
 use nodes::PlanLetter;
-use nodes::TestLetter;
 
 // What reads look at in a table: months -h to f, and how many labels.
 pub struct Reach {
@@ -23,134 +18,53 @@ pub struct Reach {
     pub labels: usize,
 }
 
-pub fn can_read(label: usize, month: Month, span: Reach) -> bool
-    requires { ⌜ Small (span .h) ⌝ }
-    ensures { λ r. ⌜ r ≡ readable (tableOf span) label (month .0) ⌝ }
-{
-    if span.labels <= label {
-        return false;
-    }
-    if month.0 < 0 - span.h {
-        return false;
-    }
-    month.0 <= span.f
+// The offsets that can be read, and how many labels.
+pub struct Window {
+    pub low: i64,
+    pub high: i64,
+    pub labels: usize,
 }
 
-// An `O` whose node may stand in any month from the first to the last.
-pub fn index_reads(nodes: &[i64; 2560], at: usize, first: Month, last: Month, span: Reach) -> bool
-    requires { ⌜ (at < 512) × Small (slotAt (now nodes) at 2) × InReach 0 first last span ⌝ }
-    ensures { λ r. ⌜ r ≡
-        (readable (tableOf span) (natOf (slotAt (now (nodes .entry)) at 1)) (first .0 +ℤ slotAt (now (nodes .entry)) at 2) &&
-        readable (tableOf span) (natOf (slotAt (now (nodes .entry)) at 1)) (last .0 +ℤ slotAt (now (nodes .entry)) at 2)) ⌝ }
+// For a node that may stand in any month from the first to the last.
+fn window_of(first: Month, last: Month, span: Reach) -> Window
+    requires { ⌜ InReach 0 first last span ⌝ }
+    ensures { λ r. ⌜ r ≡ windowOf first last span ⌝ }
 {
-    let l = node::label(nodes, at);
-    let i = node::offset(nodes, at);
-    let x = can_read(l, integers::later(first, i), span);
-    let y = can_read(l, integers::later(last, i), span);
-    x & y
+    let low = 0 - (span.h + first.0);
+    let high = span.f - last.0;
+    let labels = span.labels;
+    Window {
+        low: low,
+        high: high,
+        labels: labels,
+    }
 }
 
-pub fn amount_reads(
-    nodes: &[i64; 2560],
-    at: usize,
-    left: usize,
-    first: Month,
-    last: Month,
-    span: Reach,
-) -> bool
-    requires { ⌜ AmountReady left (now nodes) at × InReach 0 first last span ⌝ }
-    ensures { λ r. ⌜ r ≡ amountReads (tableOf span) (natOf (first .0)) (natOf (last .0)) (amountAt offsetOf left (now (nodes .entry)) at) ⌝ }
+fn row_reads(nodes: &[i64; 2560], at: usize, w: Window) -> bool
+    requires { ⌜ at < 512 ⌝ }
+    ensures { λ r. ⌜ r ≡ rowReads w (now (nodes .entry)) at ⌝ }
 {
-    let letter = node::amount_kind(nodes, at);
-    match letter {
-        AmountLetter::Number => true,
-        AmountLetter::Index => index_reads(nodes, at, first, last, span),
-        AmountLetter::Sum => two_amounts(nodes, at, left - 1, first, last, span),
-        AmountLetter::Difference => two_amounts(nodes, at, left - 1, first, last, span),
-        AmountLetter::Product => two_amounts(nodes, at, left - 1, first, last, span),
-        AmountLetter::Quotient => amount_reads(nodes, at + 1, left - 1, first, last, span),
-        AmountLetter::Choose => {
-            let t = test_reads(nodes, at + 1, left - 1, first, last, span);
-            let x = amount_reads(
-                nodes,
-                nodes::link(nodes, at, 3),
-                left - 1,
-                first,
-                last,
-                span,
-            );
-            let y = amount_reads(
-                nodes,
-                nodes::link(nodes, at, 4),
-                left - 1,
-                first,
-                last,
-                span,
-            );
-            t & (x & y)
+    if node::is_index(nodes, at) {
+        let l = node::label(nodes, at);
+        let i = node::offset(nodes, at);
+        return (l < w.labels) & ((w.low <= i.0) & (i.0 <= w.high));
+    }
+    true
+}
+
+fn rows_read(nodes: &[i64; 2560], from: usize, to: usize, w: Window) -> bool
+    requires { ⌜ (from ≤ to) × (to ≤ 512) ⌝ }
+    ensures { λ r. ⌜ r ≡ rowsRead w (now (nodes .entry)) (to - from) from ⌝ }
+{
+    let mut at = from;
+    while at < to {
+        if row_reads(nodes, at, w) {
+            at += 1;
+        } else {
+            return false;
         }
-        AmountLetter::NoAmount => true,
     }
-}
-
-pub fn test_reads(
-    nodes: &[i64; 2560],
-    at: usize,
-    left: usize,
-    first: Month,
-    last: Month,
-    span: Reach,
-) -> bool
-    requires { ⌜ TestReady left (now nodes) at × InReach 0 first last span ⌝ }
-    ensures { λ r. ⌜ r ≡ testReads (tableOf span) (natOf (first .0)) (natOf (last .0)) (testAt offsetOf left (now (nodes .entry)) at) ⌝ }
-{
-    let letter = node::test_kind(nodes, at);
-    match letter {
-        TestLetter::Less => two_amounts(nodes, at, left - 1, first, last, span),
-        TestLetter::Equal => two_amounts(nodes, at, left - 1, first, last, span),
-        TestLetter::Conjunction => two_tests(nodes, at, left - 1, first, last, span),
-        TestLetter::Disjunction => two_tests(nodes, at, left - 1, first, last, span),
-        TestLetter::Negation => test_reads(nodes, at + 1, left - 1, first, last, span),
-        TestLetter::NoTest => true,
-    }
-}
-
-// The two amounts below a node.
-pub fn two_amounts(
-    nodes: &[i64; 2560],
-    at: usize,
-    left: usize,
-    first: Month,
-    last: Month,
-    span: Reach,
-) -> bool
-    requires { ⌜ AmountsReady left (now nodes) at × InReach 0 first last span ⌝ }
-    ensures { λ r. ⌜ r ≡
-        (amountReads (tableOf span) (natOf (first .0)) (natOf (last .0)) (amountAt offsetOf left (now (nodes .entry)) (at + 1)) &&
-        amountReads (tableOf span) (natOf (first .0)) (natOf (last .0)) (amountAt offsetOf left (now (nodes .entry)) (linkAt (now (nodes .entry)) at 3))) ⌝ }
-{
-    let x = amount_reads(nodes, at + 1, left, first, last, span);
-    let y = amount_reads(nodes, nodes::link(nodes, at, 3), left, first, last, span);
-    x & y
-}
-
-// The two tests below a node.
-pub fn two_tests(
-    nodes: &[i64; 2560],
-    at: usize,
-    left: usize,
-    first: Month,
-    last: Month,
-    span: Reach,
-) -> bool
-    requires { ⌜ TestsReady left (now nodes) at × InReach 0 first last span ⌝ }
-    ensures { λ r. ⌜ r ≡
-        (testReads (tableOf span) (natOf (first .0)) (natOf (last .0)) (testAt offsetOf left (now (nodes .entry)) (at + 1)) &&
-        testReads (tableOf span) (natOf (first .0)) (natOf (last .0)) (testAt offsetOf left (now (nodes .entry)) (linkAt (now (nodes .entry)) at 3))) ⌝ }
-{
-    let x = test_reads(nodes, at + 1, left, first, last, span);
-    let y = test_reads(nodes, nodes::link(nodes, at, 3), left, first, last, span);
-    x & y
+    true
 }
 
 // A plan whose node may stand in any month from the first to the last.
@@ -170,15 +84,9 @@ pub fn plan_reads(
         PlanLetter::Nothing => true,
         PlanLetter::Transfer => true,
         PlanLetter::Scale => {
-            let x = amount_reads(nodes, at + 1, 512, first, last, span);
-            let y = plan_reads(
-                nodes,
-                nodes::link(nodes, at, 3),
-                left - 1,
-                first,
-                last,
-                span,
-            );
+            let next = nodes::link(nodes, at, 3);
+            let x = rows_read(nodes, at + 1, next, window_of(first, last, span));
+            let y = plan_reads(nodes, next, left - 1, first, last, span);
             x & y
         }
         PlanLetter::Later => {
@@ -203,8 +111,9 @@ pub fn plan_reads(
             let d = node::delay(nodes, at);
             let a = integers::later(first, d);
             let z = integers::later(last, d);
-            let t = test_reads(nodes, at + 1, 512, first, z, span);
-            let x = plan_reads(nodes, nodes::link(nodes, at, 3), left - 1, first, z, span);
+            let next = nodes::link(nodes, at, 3);
+            let t = rows_read(nodes, at + 1, next, window_of(first, z, span));
+            let x = plan_reads(nodes, next, left - 1, first, z, span);
             let y = plan_reads(nodes, nodes::link(nodes, at, 4), left - 1, a, z, span);
             t & (x & y)
         }

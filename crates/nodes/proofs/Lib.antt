@@ -1,7 +1,6 @@
 -- Laws of the node table.
 pub mod AmountsFound
 pub mod Counts
-pub mod Filled
 pub mod Laid
 pub mod Passes
 pub mod PayoffsFound

@@ -60,6 +60,19 @@ module _ (h f : ℤ) (factors bounds values : List ℤ) where
   pub no-span : SpanOk ≡ false → false ≡ tableOk (tableOf h f factors bounds values)
   no-span e = sym (parts ∙ rw e refl)
 
+  -- what a table that keeps the rules has
+  pub span-holds : tableOk (tableOf h f factors bounds values) ≡ true → UpTo maxBack h × UpTo maxMonths f
+  span-holds e =
+      let s = both-true SpanOk ((FactorsOk f && BoundsOk) && (eqb (length values) (length bounds * months h f) && valuesBounded (months h f) bounds values)) (sym parts ∙ e) .0 in
+      let b = both-true (between (pos 0) (pos maxBack) h) (between (pos 0) (pos maxMonths) f) s in
+      (up-to maxBack h (b .0), up-to maxMonths f (b .1))
+
+  pub bounds-hold : tableOk (tableOf h f factors bounds values) ≡ true → allOf (between (pos 0) (pos maxAmount)) bounds ≡ true
+  bounds-hold e =
+      let s = both-true SpanOk ((FactorsOk f && BoundsOk) && (eqb (length values) (length bounds * months h f) && valuesBounded (months h f) bounds values)) (sym parts ∙ e) .1 in
+      let b = both-true (FactorsOk f && BoundsOk) (eqb (length values) (length bounds * months h f) && valuesBounded (months h f) bounds values) s .0 in
+      both-true (leb (length bounds) maxLabels) (allOf (between (pos 0) (pos maxAmount)) bounds) (both-true (FactorsOk f) BoundsOk b .1) .1
+
   pub few-labels : (f′ : ℤ) → FactorsOk f′ && BoundsOk ≡ true → length bounds ≤ maxLabels
   few-labels f′ e = leb-true (length bounds) maxLabels (both-true (leb (length bounds) maxLabels) (allOf (between (pos 0) (pos maxAmount)) bounds) (both-true (FactorsOk f′) BoundsOk e .1) .0)
 

@@ -1,54 +1,40 @@
-use mathlib.Core.Path.{_≡_, refl, sym, ap, ap₂, _∙_}
-use mir.Syntax.{w64}
-use mir.Val.{SFits}
-use Rattle.measures.proofs.Firsts as laws
--- uses end
-use borrow.Author.Needs.{needs}
+use Rattle.measures.proofs.FirstParts as laws
 use Rattle.measures.proofs.first.in_time.Statement.{statement}
 use Rattle.measures.proofs.first.in_time.Tie as tie
-use Rattle.measures.proofs.first.in_time.Reads as reads
-use Rattle.measures.proofs.first.in_time.Lts as lts
+use borrow.Author.Needs.{needs}
+use mir.Syntax.{w64}
+use mir.Val.{SFits}
 
--- src/first.rt:60:28
 enum-known-l : tie.Need-enum-known-l
 enum-known-l c = search needs
 
--- src/first.rt:61:9
 enum-told : tie.Need-enum-told
 enum-told c = search needs
 
--- src/first.rt:61:9
 returns : tie.Need-returns
 returns c = λ y p x el ea. laws.unread y p x el ea (c .enum-told .given .1) x
 
--- src/first.rt:64:27
 enum-told-2 : tie.Need-enum-told-2
 enum-told-2 c = search needs
 
--- src/first.rt:65:28
 enum-told-3 : tie.Need-enum-told-3
 enum-told-3 c = search needs
 
--- src/first.rt:66:24
 enum-known-a : tie.Need-enum-known-a
 enum-known-a c = search needs
 
--- src/first.rt:68:17
 returns-2 : tie.Need-returns-2
 returns-2 c =
     let f : SFits w64 (c .before .before .before .before .before .before .before .before .before .l .given .0 .0 .0) = search needs in
     let g : SFits w64 (c .before .before .before .before .before .before .a .given .0 .0 .0) = search needs in
     λ y p x el ea. laws.in-time-from y p x el ea (c .before .before .before .before .before .before .before .before .before .l .given .1) f (c .before .before .before .before .before .before .a .given .1) g (c .if1 .taken)
 
--- src/first.rt:57:1
 returns-3 : tie.Need-returns-3
 returns-3 c = λ y p x el ea. laws.in-time-late y p x el ea (c .before .before .before .l .given .1) (c .enum-told2 .given .1)
 
--- src/first.rt:57:1
 returns-4 : tie.Need-returns-4
 returns-4 c = λ y p x el ea. laws.in-time-never y p x el ea (c .before .before .before .l .given .1) (c .enum-told3 .given .1)
 
--- src/first.rt:57:1
 returns-5 : tie.Need-returns-5
 returns-5 c =
     let f : SFits w64 (c .before .before .before .before .before .before .before .before .before .l .given .0 .0 .0) = search needs in

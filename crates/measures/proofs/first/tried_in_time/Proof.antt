@@ -1,34 +1,25 @@
-use mathlib.Core.Path.{_≡_, refl, sym, ap, ap₂, _∙_}
-use mir.Syntax.{w64}
-use mir.Val.{SFits}
-use Rattle.measures.proofs.Firsts as laws
 use Rattle.language.specs.Rules.Measures.{from}
--- uses end
-use borrow.Author.Needs.{needs}
+use Rattle.measures.proofs.FirstParts as laws
 use Rattle.measures.proofs.first.tried_in_time.Statement.{statement}
 use Rattle.measures.proofs.first.tried_in_time.Tie as tie
-use Rattle.measures.proofs.first.tried_in_time.Reads as reads
-use Rattle.measures.proofs.first.tried_in_time.Lts as lts
+use borrow.Author.Needs.{needs}
+use mir.Syntax.{w64}
+use mir.Val.{SFits}
 
--- src/first.rt:109:28
 enum-known-l : tie.Need-enum-known-l
 enum-known-l c = search needs
 
--- src/first.rt:110:9
 enum-told : tie.Need-enum-told
 enum-told c = search needs
 
--- src/first.rt:110:9
 returns : tie.Need-returns
 returns c = λ y p x el ea. laws.unread y p x el ea (c .enum-told .given .1) (from 0)
 
--- src/first.rt:113:9
 returns-2 : tie.Need-returns-2
 returns-2 c =
     let f : SFits w64 (c .before .before .before .before .l .given .0 .0 .0) = search needs in
     λ y p x el ea. laws.tried-in y p x el ea (c .before .before .before .before .l .given .1) f (c .if1 .taken)
 
--- src/first.rt:106:1
 returns-3 : tie.Need-returns-3
 returns-3 c =
     let f : SFits w64 (c .before .before .before .before .l .given .0 .0 .0) = search needs in

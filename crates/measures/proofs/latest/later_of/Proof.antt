@@ -1,46 +1,34 @@
-use mathlib.Core.Path.{_≡_, refl, sym, ap, ap₂, _∙_}
-use mir.Syntax.{w64}
-use mir.Val.{SFits}
 use Rattle.measures.proofs.Latests as laws
--- uses end
-use borrow.Author.Needs.{needs}
 use Rattle.measures.proofs.latest.later_of.Statement.{statement}
 use Rattle.measures.proofs.latest.later_of.Tie as tie
-use Rattle.measures.proofs.latest.later_of.Reads as reads
-use Rattle.measures.proofs.latest.later_of.Lts as lts
+use borrow.Author.Needs.{needs}
+use mir.Syntax.{w64}
+use mir.Val.{SFits}
 
--- src/latest.rt:22:28
 enum-known-a : tie.Need-enum-known-a
 enum-known-a c = search needs
 
--- src/latest.rt:23:9
 enum-told : tie.Need-enum-told
 enum-told c = search needs
 
--- src/latest.rt:23:9
 returns : tie.Need-returns
 returns c = λ x y ea eb. laws.later-none x y ea eb (c .enum-told .given .1)
 
--- src/latest.rt:25:28
 enum-known-b : tie.Need-enum-known-b
 enum-known-b c = search needs
 
--- src/latest.rt:26:9
 enum-told-2 : tie.Need-enum-told-2
 enum-told-2 c = search needs
 
--- src/latest.rt:26:9
 returns-2 : tie.Need-returns-2
 returns-2 c = λ x y ea eb. laws.later-alone x y ea eb (c .before .before .before .a .given .1) (c .enum-told2 .given .1)
 
--- src/latest.rt:29:9
 returns-3 : tie.Need-returns-3
 returns-3 c =
     let f : SFits w64 (c .before .before .before .before .before .before .before .before .before .a .given .0 .0 .0) = search needs in
     let g : SFits w64 (c .before .before .before .before .before .before .b .given .0 .0 .0) = search needs in
     λ x y ea eb. laws.later-second x y ea eb (c .before .before .before .before .before .before .before .before .before .a .given .1) (c .before .before .before .before .before .before .b .given .1) f g (c .if1 .taken)
 
--- src/latest.rt:19:1
 returns-4 : tie.Need-returns-4
 returns-4 c =
     let f : SFits w64 (c .before .before .before .before .before .before .before .before .before .a .given .0 .0 .0) = search needs in

@@ -1,127 +1,229 @@
-use borrow.Author.Needs.{needs}
-use native.Mathlib.Omega.{arith}
-use mathlib.Core.Path.{_≡_, refl, sym, ap, ap₂, subst, _∙_}
-use Rattle.measures.proofs.Plans as plans
-use Rattle.measures.proofs.Lengths as laws
-use Prim.Native.Nat.{ℕ, _<_}
-use borrow.Fn.Kinds.{In}
-use borrow.Fn.PlainCycle.{Measures, is, falls, and}
-use Rattle.measures.proofs.length.plan_length.Reads as plan-length
-use Rattle.measures.proofs.length.plan_length.Kinds as plan-length-kinds
-use Rattle.measures.proofs.length.+plan_length.Lts-plan_length as plan-length-lts
+use Prim.Native.Nat.{_<_, ℕ}
 use Rattle.integers.proofs.later.Reads as later-reads
+use Rattle.measures.proofs.Lengths as laws
+use Rattle.measures.proofs.Plans as plans
+use Rattle.measures.proofs.length.+plan_length.Lts-plan_length as plan-length-lts
+use Rattle.measures.proofs.length.+plan_length.Tie.{close}
+use Rattle.measures.proofs.length.+plan_length.{statement}
 use Rattle.measures.proofs.length.longer.Reads as longer-reads
+use Rattle.measures.proofs.length.plan_length.Kinds as plan-length-kinds
+use Rattle.measures.proofs.length.plan_length.Reads as plan-length
 use Rattle.measures.proofs.node.delay.Reads as delay-reads
 use Rattle.measures.proofs.node.plan_kind.Reads as plan-kind-reads
 use Rattle.nodes.proofs.link.Reads as link-reads
-use Rattle.measures.proofs.length.+plan_length.{statement}
-use Rattle.measures.proofs.length.+plan_length.Tie.{close}
+use borrow.Author.Needs.{needs}
+use borrow.Fn.Kinds.{In}
+use borrow.Fn.PlainCycle.{Measures, and, falls, is}
+use native.Mathlib.Omega.{arith}
 
 abbrev μ-plan-length : Measures 1 plan-length-kinds.ps ℕ
 μ-plan-length κs a = a .1 .1 .0
 
 abbrev plan-length-at : ℕ → In 1 plan-length-kinds.ps
-plan-length-at t = and 1 plan-length-kinds.ps (is 1 plan-length-kinds.ps μ-plan-length t) plan-length.Pre
+plan-length-at t =
+    and 1 plan-length-kinds.ps (is 1 plan-length-kinds.ps μ-plan-length t) plan-length.Pre
 
 abbrev plan-length-below : ℕ → In 1 plan-length-kinds.ps
-plan-length-below t = and 1 plan-length-kinds.ps (falls 1 plan-length-kinds.ps _<_ μ-plan-length t) plan-length.Pre
+plan-length-below t =
+    and 1 plan-length-kinds.ps (falls 1 plan-length-kinds.ps _<_ μ-plan-length t) plan-length.Pre
 
 abbrev plan-length-calls : ℕ → plan-length-lts.Claims
 plan-length-calls t = (plan-kind-reads.Asked, plan-kind-reads.Learnt, link-reads.Asked, link-reads.Learnt, plan-length-below t, plan-length.Post, delay-reads.Asked, delay-reads.Learnt, later-reads.Asked, later-reads.Learnt, longer-reads.Asked, longer-reads.Learnt)
 
 plan-length-plan-kind-requires : (t : ℕ) → plan-length-lts.Need-plan-kind-requires (plan-length-calls t) (plan-length-at t) plan-length.Post
-plan-length-plan-kind-requires t c κs = plans.plan-room (c .pre .1)
+plan-length-plan-kind-requires t c κs =
+    let h = c .pre .1 in
+    plans.plan-room h
 
 plan-length-link-requires : (t : ℕ) → plan-length-lts.Need-link-requires (plan-length-calls t) (plan-length-at t) plan-length.Post
-plan-length-link-requires t c κs = (plans.plan-room (c .before .before .before .pre .1), omega arith, plans.scale-ready (c .before .before .before .pre .1) (c .before .before .plan-kind .ensures) (c .enum-told3 .given .1) .1)
+plan-length-link-requires t c κs =
+    let h = c .before .before .before .pre .1 in
+    let k = c .before .before .plan-kind .ensures in
+    let q = c .enum-told3 .given .1 in
+    (plans.plan-room h, omega arith, plans.scale-ready h k q .1)
 
 plan-length-sub-plan-length : (t : ℕ) → plan-length-lts.Need-sub-plan-length (plan-length-calls t) (plan-length-at t) plan-length.Post
-plan-length-sub-plan-length t c = omega (arith, plans.plan-some (c .before .before .before .before .pre .1))
+plan-length-sub-plan-length t c =
+    let h = c .before .before .before .before .pre .1 in
+    omega (arith, plans.plan-some h)
 
 plan-length-plan-length-requires : (t : ℕ) → plan-length-lts.Need-plan-length-requires (plan-length-calls t) (plan-length-at t) plan-length.Post
-plan-length-plan-length-requires t c κs = (omega (arith, plans.plan-some (c .before .before .before .before .pre .1)), rw (c .link .ensures) (plans.scale-ready (c .before .before .before .before .pre .1) (c .before .before .before .plan-kind .ensures) (c .before .enum-told3 .given .1) .2))
+plan-length-plan-length-requires t c κs =
+    let h = c .before .before .before .before .pre .1 in
+    let k = c .before .before .before .plan-kind .ensures in
+    let q = c .before .enum-told3 .given .1 in
+    (omega (arith, plans.plan-some h), rw (c .link .ensures) (plans.scale-ready h k q .2))
 
 plan-length-delay-requires : (t : ℕ) → plan-length-lts.Need-delay-requires (plan-length-calls t) (plan-length-at t) plan-length.Post
-plan-length-delay-requires t c κs = plans.plan-room (c .before .before .before .pre .1)
+plan-length-delay-requires t c κs =
+    let h = c .before .before .before .pre .1 in
+    plans.plan-room h
 
 plan-length-add-plan-length : (t : ℕ) → plan-length-lts.Need-add-plan-length (plan-length-calls t) (plan-length-at t) plan-length.Post
-plan-length-add-plan-length t c = omega (arith, plans.plan-room (c .before .before .before .before .pre .1))
+plan-length-add-plan-length t c =
+    let h = c .before .before .before .before .pre .1 in
+    omega (arith, plans.plan-room h)
 
 plan-length-sub-plan-length-2 : (t : ℕ) → plan-length-lts.Need-sub-plan-length-2 (plan-length-calls t) (plan-length-at t) plan-length.Post
-plan-length-sub-plan-length-2 t c = omega (arith, plans.plan-some (c .before .before .before .before .pre .1))
+plan-length-sub-plan-length-2 t c =
+    let h = c .before .before .before .before .pre .1 in
+    omega (arith, plans.plan-some h)
 
 plan-length-plan-length-requires-2 : (t : ℕ) → plan-length-lts.Need-plan-length-requires-2 (plan-length-calls t) (plan-length-at t) plan-length.Post
-plan-length-plan-length-requires-2 t c κs = (omega (arith, plans.plan-some (c .before .before .before .before .pre .1)), plans.later-ready (c .before .before .before .before .pre .1) (c .before .before .before .plan-kind .ensures) (c .before .enum-told4 .given .1) .1)
+plan-length-plan-length-requires-2 t c κs =
+    let h = c .before .before .before .before .pre .1 in
+    let k = c .before .before .before .plan-kind .ensures in
+    let q = c .before .enum-told4 .given .1 in
+    (omega (arith, plans.plan-some h), plans.later-ready h k q .1)
 
 plan-length-later-requires : (t : ℕ) → plan-length-lts.Need-later-requires (plan-length-calls t) (plan-length-at t) plan-length.Post
 plan-length-later-requires t c κs =
-    let r = plans.later-ready (c .before .before .before .before .before .pre .1) (c .before .before .before .before .plan-kind .ensures) (c .before .before .enum-told4 .given .1) in
+    let h = c .before .before .before .before .before .pre .1 in
+    let k = c .before .before .before .before .plan-kind .ensures in
+    let q = c .before .before .enum-told4 .given .1 in
+    let r = plans.later-ready h k q in
     (laws.few (c .before .delay .ensures) (omega (arith, r .0)), laws.few (c .plan-length2 .ensures) (omega (arith, laws.length-bound (r .1))))
 
 plan-length-add-plan-length-2 : (t : ℕ) → plan-length-lts.Need-add-plan-length-2 (plan-length-calls t) (plan-length-at t) plan-length.Post
-plan-length-add-plan-length-2 t c = omega (arith, plans.plan-room (c .before .before .before .pre .1))
+plan-length-add-plan-length-2 t c =
+    let h = c .before .before .before .pre .1 in
+    omega (arith, plans.plan-room h)
 
 plan-length-sub-plan-length-3 : (t : ℕ) → plan-length-lts.Need-sub-plan-length-3 (plan-length-calls t) (plan-length-at t) plan-length.Post
-plan-length-sub-plan-length-3 t c = omega (arith, plans.plan-some (c .before .before .before .pre .1))
+plan-length-sub-plan-length-3 t c =
+    let h = c .before .before .before .pre .1 in
+    omega (arith, plans.plan-some h)
 
 plan-length-plan-length-requires-3 : (t : ℕ) → plan-length-lts.Need-plan-length-requires-3 (plan-length-calls t) (plan-length-at t) plan-length.Post
-plan-length-plan-length-requires-3 t c κs = (omega (arith, plans.plan-some (c .before .before .before .pre .1)), plans.both-ready (c .before .before .before .pre .1) (c .before .before .plan-kind .ensures) (c .enum-told5 .given .1) .0)
+plan-length-plan-length-requires-3 t c κs =
+    let h = c .before .before .before .pre .1 in
+    let k = c .before .before .plan-kind .ensures in
+    let q = c .enum-told5 .given .1 in
+    (omega (arith, plans.plan-some h), plans.both-ready h k q .0)
 
 plan-length-link-requires-2 : (t : ℕ) → plan-length-lts.Need-link-requires-2 (plan-length-calls t) (plan-length-at t) plan-length.Post
-plan-length-link-requires-2 t c κs = (plans.plan-room (c .before .before .before .before .pre .1), omega arith, plans.both-ready (c .before .before .before .before .pre .1) (c .before .before .before .plan-kind .ensures) (c .before .enum-told5 .given .1) .1)
+plan-length-link-requires-2 t c κs =
+    let h = c .before .before .before .before .pre .1 in
+    let k = c .before .before .before .plan-kind .ensures in
+    let q = c .before .enum-told5 .given .1 in
+    (plans.plan-room h, omega arith, plans.both-ready h k q .1)
 
 plan-length-sub-plan-length-4 : (t : ℕ) → plan-length-lts.Need-sub-plan-length-4 (plan-length-calls t) (plan-length-at t) plan-length.Post
-plan-length-sub-plan-length-4 t c = omega (arith, plans.plan-some (c .before .before .before .before .before .pre .1))
+plan-length-sub-plan-length-4 t c =
+    let h = c .before .before .before .before .before .pre .1 in
+    omega (arith, plans.plan-some h)
 
 plan-length-plan-length-requires-4 : (t : ℕ) → plan-length-lts.Need-plan-length-requires-4 (plan-length-calls t) (plan-length-at t) plan-length.Post
-plan-length-plan-length-requires-4 t c κs = (omega (arith, plans.plan-some (c .before .before .before .before .before .pre .1)), rw (c .link2 .ensures) (plans.both-ready (c .before .before .before .before .before .pre .1) (c .before .before .before .before .plan-kind .ensures) (c .before .before .enum-told5 .given .1) .2))
+plan-length-plan-length-requires-4 t c κs =
+    let h = c .before .before .before .before .before .pre .1 in
+    let k = c .before .before .before .before .plan-kind .ensures in
+    let q = c .before .before .enum-told5 .given .1 in
+    (omega (arith, plans.plan-some h), rw (c .link2 .ensures) (plans.both-ready h k q .2))
 
 plan-length-delay-requires-2 : (t : ℕ) → plan-length-lts.Need-delay-requires-2 (plan-length-calls t) (plan-length-at t) plan-length.Post
-plan-length-delay-requires-2 t c κs = plans.plan-room (c .before .before .before .pre .1)
+plan-length-delay-requires-2 t c κs =
+    let h = c .before .before .before .pre .1 in
+    plans.plan-room h
 
 plan-length-link-requires-3 : (t : ℕ) → plan-length-lts.Need-link-requires-3 (plan-length-calls t) (plan-length-at t) plan-length.Post
-plan-length-link-requires-3 t c κs = (plans.plan-room (c .before .before .before .before .pre .1), omega arith, plans.within-ready (c .before .before .before .before .pre .1) (c .before .before .before .plan-kind .ensures) (c .before .enum-told6 .given .1) .2 .0)
+plan-length-link-requires-3 t c κs =
+    let h = c .before .before .before .before .pre .1 in
+    let k = c .before .before .before .plan-kind .ensures in
+    let q = c .before .enum-told6 .given .1 in
+    (plans.plan-room h, omega arith, plans.within-ready h k q .2 .0)
 
 plan-length-sub-plan-length-5 : (t : ℕ) → plan-length-lts.Need-sub-plan-length-5 (plan-length-calls t) (plan-length-at t) plan-length.Post
-plan-length-sub-plan-length-5 t c = omega (arith, plans.plan-some (c .before .before .before .before .before .pre .1))
+plan-length-sub-plan-length-5 t c =
+    let h = c .before .before .before .before .before .pre .1 in
+    omega (arith, plans.plan-some h)
 
 plan-length-plan-length-requires-5 : (t : ℕ) → plan-length-lts.Need-plan-length-requires-5 (plan-length-calls t) (plan-length-at t) plan-length.Post
-plan-length-plan-length-requires-5 t c κs = (omega (arith, plans.plan-some (c .before .before .before .before .before .pre .1)), rw (c .link3 .ensures) (plans.within-ready (c .before .before .before .before .before .pre .1) (c .before .before .before .before .plan-kind .ensures) (c .before .before .enum-told6 .given .1) .2 .1))
+plan-length-plan-length-requires-5 t c κs =
+    let h = c .before .before .before .before .before .pre .1 in
+    let k = c .before .before .before .before .plan-kind .ensures in
+    let q = c .before .before .enum-told6 .given .1 in
+    (omega (arith, plans.plan-some h), rw (c .link3 .ensures) (plans.within-ready h k q .2 .1))
 
 plan-length-link-requires-4 : (t : ℕ) → plan-length-lts.Need-link-requires-4 (plan-length-calls t) (plan-length-at t) plan-length.Post
-plan-length-link-requires-4 t c κs = (plans.plan-room (c .before .before .before .before .before .before .pre .1), omega arith, plans.within-ready (c .before .before .before .before .before .before .pre .1) (c .before .before .before .before .before .plan-kind .ensures) (c .before .before .before .enum-told6 .given .1) .3 .0)
+plan-length-link-requires-4 t c κs =
+    let h = c .before .before .before .before .before .before .pre .1 in
+    let k = c .before .before .before .before .before .plan-kind .ensures in
+    let q = c .before .before .before .enum-told6 .given .1 in
+    (plans.plan-room h, omega arith, plans.within-ready h k q .3 .0)
 
 plan-length-sub-plan-length-6 : (t : ℕ) → plan-length-lts.Need-sub-plan-length-6 (plan-length-calls t) (plan-length-at t) plan-length.Post
-plan-length-sub-plan-length-6 t c = omega (arith, plans.plan-some (c .before .before .before .before .before .before .before .pre .1))
+plan-length-sub-plan-length-6 t c =
+    let h = c .before .before .before .before .before .before .before .pre .1 in
+    omega (arith, plans.plan-some h)
 
 plan-length-plan-length-requires-6 : (t : ℕ) → plan-length-lts.Need-plan-length-requires-6 (plan-length-calls t) (plan-length-at t) plan-length.Post
-plan-length-plan-length-requires-6 t c κs = (omega (arith, plans.plan-some (c .before .before .before .before .before .before .before .pre .1)), rw (c .link4 .ensures) (plans.within-ready (c .before .before .before .before .before .before .before .pre .1) (c .before .before .before .before .before .before .plan-kind .ensures) (c .before .before .before .before .enum-told6 .given .1) .3 .1))
+plan-length-plan-length-requires-6 t c κs =
+    let h = c .before .before .before .before .before .before .before .pre .1 in
+    let k = c .before .before .before .before .before .before .plan-kind .ensures in
+    let q = c .before .before .before .before .enum-told6 .given .1 in
+    (omega (arith, plans.plan-some h), rw (c .link4 .ensures) (plans.within-ready h k q .3 .1))
 
 plan-length-later-requires-2 : (t : ℕ) → plan-length-lts.Need-later-requires-2 (plan-length-calls t) (plan-length-at t) plan-length.Post
 plan-length-later-requires-2 t c κs =
-    let r = plans.within-ready (c .before .before .before .before .before .before .before .before .before .pre .1) (c .before .before .before .before .before .before .before .before .plan-kind .ensures) (c .before .before .before .before .before .before .enum-told6 .given .1) in
-    (laws.few (c .before .before .before .before .before .delay2 .ensures) (omega (arith, r .0)), laws.few (c .longer2 .ensures _ _ (c .before .before .before .plan-length5 .ensures) (c .before .plan-length6 .ensures)) (rw (c .before .before .before .before .link3 .ensures, c .before .before .link4 .ensures) (omega (arith, laws.length-bound (r .2 .1), laws.length-bound (r .3 .1)))))
+    let h = c .before .before .before .before .before .before .before .before .before .pre .1 in
+    let k = c .before .before .before .before .before .before .before .before .plan-kind .ensures in
+    let q = c .before .before .before .before .before .before .enum-told6 .given .1 in
+    let r = plans.within-ready h k q in
+    let x = c .longer2 .ensures _ _ (c .before .before .before .plan-length5 .ensures) (c .before .plan-length6 .ensures) in
+    let b = laws.length-bound (r .2 .1) in
+    let d = laws.length-bound (r .3 .1) in
+    (laws.few (c .before .before .before .before .before .delay2 .ensures) (omega (arith, r .0)), laws.few x (rw (c .before .before .before .before .link3 .ensures, c .before .before .link4 .ensures) (omega (arith, b, d))))
 
 plan-length-returns : (t : ℕ) → plan-length-lts.Need-returns (plan-length-calls t) (plan-length-at t) plan-length.Post
-plan-length-returns t c = laws.nothing-length (c .before .before .before .pre .1) (c .before .before .plan-kind .ensures) (c .enum-told .given .1)
+plan-length-returns t c =
+    let h = c .before .before .before .pre .1 in
+    let k = c .before .before .plan-kind .ensures in
+    let q = c .enum-told .given .1 in
+    laws.nothing-length h k q
 
 plan-length-returns-2 : (t : ℕ) → plan-length-lts.Need-returns-2 (plan-length-calls t) (plan-length-at t) plan-length.Post
-plan-length-returns-2 t c = laws.transfer-length (c .before .before .before .pre .1) (c .before .before .plan-kind .ensures) (c .enum-told2 .given .1)
+plan-length-returns-2 t c =
+    let h = c .before .before .before .pre .1 in
+    let k = c .before .before .plan-kind .ensures in
+    let q = c .enum-told2 .given .1 in
+    laws.transfer-length h k q
 
 plan-length-returns-3 : (t : ℕ) → plan-length-lts.Need-returns-3 (plan-length-calls t) (plan-length-at t) plan-length.Post
-plan-length-returns-3 t c = laws.scale-length (c .before .before .before .before .before .pre .1) (c .before .before .before .before .plan-kind .ensures) (c .before .before .enum-told3 .given .1) (c .before .link .ensures) (c .plan-length .ensures)
+plan-length-returns-3 t c =
+    let h = c .before .before .before .before .before .pre .1 in
+    let k = c .before .before .before .before .plan-kind .ensures in
+    let q = c .before .before .enum-told3 .given .1 in
+    laws.scale-length h k q (c .before .link .ensures) (c .plan-length .ensures)
 
 plan-length-returns-4 : (t : ℕ) → plan-length-lts.Need-returns-4 (plan-length-calls t) (plan-length-at t) plan-length.Post
-plan-length-returns-4 t c = laws.later-length (c .before .before .before .before .before .before .pre .1) (c .before .before .before .before .before .plan-kind .ensures) (c .before .before .before .enum-told4 .given .1) (c .before .before .delay .ensures) (c .before .plan-length2 .ensures) (c .later .ensures)
+plan-length-returns-4 t c =
+    let h = c .before .before .before .before .before .before .pre .1 in
+    let k = c .before .before .before .before .before .plan-kind .ensures in
+    let q = c .before .before .before .enum-told4 .given .1 in
+    laws.later-length h k q (c .before .before .delay .ensures) (c .before .plan-length2 .ensures) (c .later .ensures)
 
 plan-length-returns-5 : (t : ℕ) → plan-length-lts.Need-returns-5 (plan-length-calls t) (plan-length-at t) plan-length.Post
-plan-length-returns-5 t c = laws.both-length (c .before .before .before .before .before .before .before .pre .1) (c .before .before .before .before .before .before .plan-kind .ensures) (c .before .before .before .before .enum-told5 .given .1) (c .before .before .link2 .ensures) (c .longer .ensures _ _ (c .before .before .before .plan-length3 .ensures) (c .before .plan-length4 .ensures))
+plan-length-returns-5 t c =
+    let h = c .before .before .before .before .before .before .before .pre .1 in
+    let k = c .before .before .before .before .before .before .plan-kind .ensures in
+    let q = c .before .before .before .before .enum-told5 .given .1 in
+    let x = c .longer .ensures _ _ (c .before .before .before .plan-length3 .ensures) (c .before .plan-length4 .ensures) in
+    laws.both-length h k q (c .before .before .link2 .ensures) x
 
 plan-length-returns-6 : (t : ℕ) → plan-length-lts.Need-returns-6 (plan-length-calls t) (plan-length-at t) plan-length.Post
-plan-length-returns-6 t c = laws.within-length (c .before .before .before .before .before .before .before .before .before .before .pre .1) (c .before .before .before .before .before .before .before .before .before .plan-kind .ensures) (c .before .before .before .before .before .before .before .enum-told6 .given .1) (c .before .before .before .before .before .link3 .ensures) (c .before .before .before .link4 .ensures) (c .before .before .before .before .before .before .delay2 .ensures) (c .before .longer2 .ensures _ _ (c .before .before .before .before .plan-length5 .ensures) (c .before .before .plan-length6 .ensures)) (c .later2 .ensures)
+plan-length-returns-6 t c =
+    let h = c .before .before .before .before .before .before .before .before .before .before .pre .1 in
+    let k = c .before .before .before .before .before .before .before .before .before .plan-kind .ensures in
+    let q = c .before .before .before .before .before .before .before .enum-told6 .given .1 in
+    let x = c .before .longer2 .ensures _ _ (c .before .before .before .before .plan-length5 .ensures) (c .before .before .plan-length6 .ensures) in
+    laws.within-length h k q (c .before .before .before .before .before .link3 .ensures) (c .before .before .before .link4 .ensures) (c .before .before .before .before .before .before .delay2 .ensures) x (c .later2 .ensures)
 
 plan-length-returns-7 : (t : ℕ) → plan-length-lts.Need-returns-7 (plan-length-calls t) (plan-length-at t) plan-length.Post
-plan-length-returns-7 t c = laws.no-plan-length (c .before .before .before .pre .1) (c .before .before .plan-kind .ensures) (c .enum-told7 .given .1)
+plan-length-returns-7 t c =
+    let h = c .before .before .before .pre .1 in
+    let k = c .before .before .plan-kind .ensures in
+    let q = c .enum-told7 .given .1 in
+    laws.no-plan-length h k q
 
 plan-length-part : {M : Type 1} (t : ℕ) → plan-length-lts.Closed (plan-length-calls t) (plan-length-at t) plan-length.Post M
 plan-length-part t =

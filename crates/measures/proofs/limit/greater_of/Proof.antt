@@ -1,47 +1,35 @@
-use mathlib.Core.Path.{_≡_, refl, sym, ap, ap₂, _∙_}
-use mir.Syntax.{w64}
-use mir.Val.{SFits}
-use Prim.Native.Nat.{_+_, _*_, max}
+use Prim.Native.Nat.{max}
 use Rattle.measures.proofs.Joins as laws
--- uses end
-use borrow.Author.Needs.{needs}
 use Rattle.measures.proofs.limit.greater_of.Statement.{statement}
 use Rattle.measures.proofs.limit.greater_of.Tie as tie
-use Rattle.measures.proofs.limit.greater_of.Reads as reads
-use Rattle.measures.proofs.limit.greater_of.Lts as lts
+use borrow.Author.Needs.{needs}
+use mir.Syntax.{w64}
+use mir.Val.{SFits}
 
--- src/limit.rt:64:26
 enum-known-a : tie.Need-enum-known-a
 enum-known-a c = search needs
 
--- src/limit.rt:65:9
 enum-told : tie.Need-enum-told
 enum-told c = search needs
 
--- src/limit.rt:65:9
 returns : tie.Need-returns
 returns c = laws.first-beyond max (c .before .before .args .two .first) (c .before .before .args .two .second) (c .enum-told .given .1)
 
--- src/limit.rt:67:26
 enum-known-b : tie.Need-enum-known-b
 enum-known-b c = search needs
 
--- src/limit.rt:68:9
 enum-told-2 : tie.Need-enum-told-2
 enum-told-2 c = search needs
 
--- src/limit.rt:68:9
 returns-2 : tie.Need-returns-2
 returns-2 c = laws.second-beyond max (c .before .before .before .before .before .args .two .first) (c .before .before .before .before .before .args .two .second) (c .before .before .before .a .given .1) (c .enum-told2 .given .1)
 
--- src/limit.rt:71:9
 returns-3 : tie.Need-returns-3
 returns-3 c =
     let f : SFits w64 (c .before .before .before .before .before .before .before .before .before .a .given .0 .0 .0) = search needs in
     let g : SFits w64 (c .before .before .before .before .before .before .b .given .0 .0 .0) = search needs in
     laws.second-greater (c .before .before .before .before .before .before .before .before .before .before .before .pre .0) (c .before .before .before .before .before .before .before .before .before .before .before .pre .1) (c .before .before .before .before .before .before .before .before .before .a .given .1) (c .before .before .before .before .before .before .b .given .1) f g (c .if1 .taken)
 
--- src/limit.rt:58:1
 returns-4 : tie.Need-returns-4
 returns-4 c =
     let f : SFits w64 (c .before .before .before .before .before .before .before .before .before .a .given .0 .0 .0) = search needs in

@@ -1,52 +1,35 @@
-use mathlib.Core.Path.{_≡_, refl, sym, ap, ap₂, _∙_}
-use mir.Syntax.{w64}
-use mir.Val.{SFits}
-use Prim.Native.Nat.{_+_, _*_, max}
+use Prim.Native.Nat.{_*_}
 use Rattle.measures.proofs.Joins as laws
--- uses end
-use borrow.Author.Needs.{needs}
 use Rattle.measures.proofs.limit.product_of.Statement.{statement}
 use Rattle.measures.proofs.limit.product_of.Tie as tie
-use Rattle.measures.proofs.limit.product_of.Reads as reads
-use Rattle.measures.proofs.limit.product_of.Lts as lts
-use Rattle.integers.proofs.product.Reads as product-reads
-use Rattle.measures.proofs.limit.taken.Reads as taken-reads
+use borrow.Author.Needs.{needs}
 
--- src/limit.rt:49:26
 enum-known-a : tie.Need-enum-known-a
 enum-known-a c = search needs
 
--- src/limit.rt:50:9
 enum-told : tie.Need-enum-told
 enum-told c = search needs
 
--- src/limit.rt:50:9
 returns : tie.Need-returns
 returns c = laws.first-beyond _*_ (c .before .before .args .two .first) (c .before .before .args .two .second) (c .enum-told .given .1)
 
--- src/limit.rt:52:26
 enum-known-b : tie.Need-enum-known-b
 enum-known-b c = search needs
 
--- src/limit.rt:53:9
 enum-told-2 : tie.Need-enum-told-2
 enum-told-2 c = search needs
 
--- src/limit.rt:53:9
 returns-2 : tie.Need-returns-2
 returns-2 c = laws.second-beyond _*_ (c .before .before .before .before .before .args .two .first) (c .before .before .before .before .before .args .two .second) (c .before .before .before .a .given .1) (c .enum-told2 .given .1)
 
--- src/limit.rt:55:11
 product-requires : tie.Need-product-requires
 product-requires c κs = (c .before .before .before .before .before .before .pre .0 .small _ (c .before .before .before .before .a .given .1), c .before .before .before .before .before .before .pre .1 .small _ (c .before .b .given .1))
 
--- src/limit.rt:55:5
-taken-requires : tie.Need-taken-requires
-taken-requires c κs = search needs
+measured-of-requires : tie.Need-measured-of-requires
+measured-of-requires c κs = search needs
 
--- src/limit.rt:43:1
 returns-3 : tie.Need-returns-3
-returns-3 c = laws.product-joined (c .before .before .before .before .before .before .before .before .pre .0) (c .before .before .before .before .before .before .before .before .pre .1) (c .before .before .before .before .before .before .a .given .1) (c .before .before .before .b .given .1) (c .before .product .ensures) (c .taken .ensures)
+returns-3 c = laws.product-joined (c .before .before .before .before .before .before .before .before .pre .0) (c .before .before .before .before .before .before .before .before .pre .1) (c .before .before .before .before .before .before .a .given .1) (c .before .before .before .b .given .1) (c .before .product .ensures) (c .measured-of .ensures)
 
 pub product-of-spec : {M : Type 1} → statement M
 product-of-spec =
@@ -59,5 +42,5 @@ product-of-spec =
     enum-told-2
     returns-2
     product-requires
-    taken-requires
+    measured-of-requires
     returns-3)

@@ -1,41 +1,36 @@
-use borrow.Author.Needs.{needs}
-use native.Mathlib.Omega.{arith}
-use Prim.Native.Nat.{_*_, _+_}
-use mathlib.Core.Bool.{_&&_}
-use mathlib.Core.Path.{_≡_, refl, sym, ap, ap₂, subst, _∙_}
-use Rattle.measures.proofs.Amounts as amounts
+use Prim.Native.Nat.{_*_, _+_, _<_, ℕ}
 use Rattle.measures.proofs.AmountMagnitudes as laws
-use Prim.Native.Nat.{ℕ, _<_}
-use borrow.Fn.Kinds.{In}
-use borrow.Fn.PlainCycle.{Measures, is, falls, and}
-use Rattle.measures.proofs.magnitude.amount_magnitude.Reads as amount-magnitude
-use Rattle.measures.proofs.magnitude.amount_magnitude.Kinds as amount-magnitude-kinds
-use Rattle.measures.proofs.magnitude.+amount_magnitude+test_small+two_amounts+two_tests.Lts-amount_magnitude as amount-magnitude-lts
-use Rattle.measures.proofs.magnitude.test_small.Reads as test-small
-use Rattle.measures.proofs.magnitude.test_small.Kinds as test-small-kinds
-use Rattle.measures.proofs.magnitude.+amount_magnitude+test_small+two_amounts+two_tests.Lts-test_small as test-small-lts
-use Rattle.measures.proofs.magnitude.two_amounts.Reads as two-amounts
-use Rattle.measures.proofs.magnitude.two_amounts.Kinds as two-amounts-kinds
-use Rattle.measures.proofs.magnitude.+amount_magnitude+test_small+two_amounts+two_tests.Lts-two_amounts as two-amounts-lts
-use Rattle.measures.proofs.magnitude.two_tests.Reads as two-tests
-use Rattle.measures.proofs.magnitude.two_tests.Kinds as two-tests-kinds
-use Rattle.measures.proofs.magnitude.+amount_magnitude+test_small+two_amounts+two_tests.Lts-two_tests as two-tests-lts
+use Rattle.measures.proofs.Amounts as amounts
 use Rattle.measures.proofs.limit.both_within.Reads as both-within-reads
 use Rattle.measures.proofs.limit.greater_of.Reads as greater-of-reads
 use Rattle.measures.proofs.limit.product_of.Reads as product-of-reads
 use Rattle.measures.proofs.limit.sum_of.Reads as sum-of-reads
+use Rattle.measures.proofs.magnitude.+amount_magnitude+test_small+two_amounts+two_tests.Lts-amount_magnitude as amount-magnitude-lts
+use Rattle.measures.proofs.magnitude.+amount_magnitude+test_small+two_amounts+two_tests.Lts-test_small as test-small-lts
+use Rattle.measures.proofs.magnitude.+amount_magnitude+test_small+two_amounts+two_tests.Lts-two_amounts as two-amounts-lts
+use Rattle.measures.proofs.magnitude.+amount_magnitude+test_small+two_amounts+two_tests.Lts-two_tests as two-tests-lts
+use Rattle.measures.proofs.magnitude.+amount_magnitude+test_small+two_amounts+two_tests.Tie.{close}
+use Rattle.measures.proofs.magnitude.+amount_magnitude+test_small+two_amounts+two_tests.{statement}
+use Rattle.measures.proofs.magnitude.amount_magnitude.Kinds as amount-magnitude-kinds
+use Rattle.measures.proofs.magnitude.amount_magnitude.Reads as amount-magnitude
 use Rattle.measures.proofs.magnitude.bound_of.Reads as bound-of-reads
 use Rattle.measures.proofs.magnitude.distance.Reads as distance-reads
+use Rattle.measures.proofs.magnitude.test_small.Kinds as test-small-kinds
+use Rattle.measures.proofs.magnitude.test_small.Reads as test-small
+use Rattle.measures.proofs.magnitude.two_amounts.Kinds as two-amounts-kinds
+use Rattle.measures.proofs.magnitude.two_amounts.Reads as two-amounts
+use Rattle.measures.proofs.magnitude.two_tests.Kinds as two-tests-kinds
+use Rattle.measures.proofs.magnitude.two_tests.Reads as two-tests
 use Rattle.measures.proofs.node.amount_kind.Reads as amount-kind-reads
 use Rattle.measures.proofs.node.label.Reads as label-reads
 use Rattle.measures.proofs.node.test_kind.Reads as test-kind-reads
 use Rattle.nodes.proofs.link.Reads as link-reads
-use Rattle.measures.proofs.magnitude.+amount_magnitude+test_small+two_amounts+two_tests.{
-  statement,
-}
-use Rattle.measures.proofs.magnitude.+amount_magnitude+test_small+two_amounts+two_tests.Tie.{
-  close,
-}
+use borrow.Author.Needs.{needs}
+use borrow.Fn.Kinds.{In}
+use borrow.Fn.PlainCycle.{Measures, and, falls, is}
+use mathlib.Core.Bool.{_&&_}
+use mathlib.Core.Path.{ap₂}
+use native.Mathlib.Omega.{arith}
 
 abbrev μ-amount-magnitude : Measures 2 amount-magnitude-kinds.ps ℕ
 μ-amount-magnitude κs a = 2 * a .1 .1 .0
@@ -50,144 +45,274 @@ abbrev μ-two-tests : Measures 2 two-tests-kinds.ps ℕ
 μ-two-tests κs a = 2 * a .1 .1 .0 + 1
 
 abbrev amount-magnitude-at : ℕ → In 2 amount-magnitude-kinds.ps
-amount-magnitude-at t = and
+amount-magnitude-at t =
+    and
     2
     amount-magnitude-kinds.ps
     (is 2 amount-magnitude-kinds.ps μ-amount-magnitude t)
     amount-magnitude.Pre
 
 abbrev amount-magnitude-below : ℕ → In 2 amount-magnitude-kinds.ps
-amount-magnitude-below t = and
+amount-magnitude-below t =
+    and
     2
     amount-magnitude-kinds.ps
     (falls 2 amount-magnitude-kinds.ps _<_ μ-amount-magnitude t)
     amount-magnitude.Pre
 
 abbrev test-small-at : ℕ → In 2 test-small-kinds.ps
-test-small-at t = and 2 test-small-kinds.ps (is 2 test-small-kinds.ps μ-test-small t) test-small.Pre
+test-small-at t =
+    and 2 test-small-kinds.ps (is 2 test-small-kinds.ps μ-test-small t) test-small.Pre
 
 abbrev test-small-below : ℕ → In 2 test-small-kinds.ps
-test-small-below t = and 2 test-small-kinds.ps (falls 2 test-small-kinds.ps _<_ μ-test-small t) test-small.Pre
+test-small-below t =
+    and 2 test-small-kinds.ps (falls 2 test-small-kinds.ps _<_ μ-test-small t) test-small.Pre
 
 abbrev two-amounts-at : ℕ → In 2 two-amounts-kinds.ps
-two-amounts-at t = and 2 two-amounts-kinds.ps (is 2 two-amounts-kinds.ps μ-two-amounts t) two-amounts.Pre
+two-amounts-at t =
+    and 2 two-amounts-kinds.ps (is 2 two-amounts-kinds.ps μ-two-amounts t) two-amounts.Pre
 
 abbrev two-amounts-below : ℕ → In 2 two-amounts-kinds.ps
-two-amounts-below t = and 2 two-amounts-kinds.ps (falls 2 two-amounts-kinds.ps _<_ μ-two-amounts t) two-amounts.Pre
+two-amounts-below t =
+    and 2 two-amounts-kinds.ps (falls 2 two-amounts-kinds.ps _<_ μ-two-amounts t) two-amounts.Pre
 
 abbrev two-tests-at : ℕ → In 2 two-tests-kinds.ps
 two-tests-at t = and 2 two-tests-kinds.ps (is 2 two-tests-kinds.ps μ-two-tests t) two-tests.Pre
 
 abbrev two-tests-below : ℕ → In 2 two-tests-kinds.ps
-two-tests-below t = and 2 two-tests-kinds.ps (falls 2 two-tests-kinds.ps _<_ μ-two-tests t) two-tests.Pre
+two-tests-below t =
+    and 2 two-tests-kinds.ps (falls 2 two-tests-kinds.ps _<_ μ-two-tests t) two-tests.Pre
 
 abbrev amount-magnitude-calls : ℕ → amount-magnitude-lts.Claims
 amount-magnitude-calls t = (amount-kind-reads.Asked, amount-kind-reads.Learnt, distance-reads.Asked, distance-reads.Learnt, label-reads.Asked, label-reads.Learnt, bound-of-reads.Asked, bound-of-reads.Learnt, two-amounts-below t, two-amounts.Post, sum-of-reads.Asked, sum-of-reads.Learnt, product-of-reads.Asked, product-of-reads.Learnt, amount-magnitude-below t, amount-magnitude.Post, test-small-below t, test-small.Post, link-reads.Asked, link-reads.Learnt, greater-of-reads.Asked, greater-of-reads.Learnt)
 
 amount-magnitude-amount-kind-requires : (t : ℕ) → amount-magnitude-lts.Need-amount-kind-requires (amount-magnitude-calls t) (amount-magnitude-at t) amount-magnitude.Post
-amount-magnitude-amount-kind-requires t c κs = amounts.amount-room (c .pre .1 .0)
+amount-magnitude-amount-kind-requires t c κs =
+    let h = c .pre .1 .0 in
+    amounts.amount-room h
 
 amount-magnitude-distance-requires : (t : ℕ) → amount-magnitude-lts.Need-distance-requires (amount-magnitude-calls t) (amount-magnitude-at t) amount-magnitude.Post
-amount-magnitude-distance-requires t c κs = (amounts.amount-room (c .before .before .before .pre .1 .0), record { small = amounts.number-ready (c .before .before .before .pre .1 .0) (c .before .before .amount-kind .ensures) (c .enum-told .given .1) })
+amount-magnitude-distance-requires t c κs =
+    let h = c .before .before .before .pre .1 .0 in
+    let k = c .before .before .amount-kind .ensures in
+    let q = c .enum-told .given .1 in
+    (amounts.amount-room h, record { small = amounts.number-ready h k q })
 
 amount-magnitude-label-requires : (t : ℕ) → amount-magnitude-lts.Need-label-requires (amount-magnitude-calls t) (amount-magnitude-at t) amount-magnitude.Post
-amount-magnitude-label-requires t c κs = amounts.amount-room (c .before .before .before .pre .1 .0)
+amount-magnitude-label-requires t c κs =
+    let h = c .before .before .before .pre .1 .0 in
+    amounts.amount-room h
 
 amount-magnitude-bound-of-requires : (t : ℕ) → amount-magnitude-lts.Need-bound-of-requires (amount-magnitude-calls t) (amount-magnitude-at t) amount-magnitude.Post
-amount-magnitude-bound-of-requires t c κs = c .before .before .before .before .pre .1 .1
+amount-magnitude-bound-of-requires t c κs =
+    let m = c .before .before .before .before .pre .1 .1 in
+    m
 
 amount-magnitude-sub-two-amounts : (t : ℕ) → amount-magnitude-lts.Need-sub-two-amounts (amount-magnitude-calls t) (amount-magnitude-at t) amount-magnitude.Post
-amount-magnitude-sub-two-amounts t c = omega (arith, amounts.amount-some (c .before .before .before .pre .1 .0))
+amount-magnitude-sub-two-amounts t c =
+    let h = c .before .before .before .pre .1 .0 in
+    omega (arith, amounts.amount-some h)
 
 amount-magnitude-two-amounts-requires : (t : ℕ) → amount-magnitude-lts.Need-two-amounts-requires (amount-magnitude-calls t) (amount-magnitude-at t) amount-magnitude.Post
-amount-magnitude-two-amounts-requires t c κs = (omega (arith, amounts.amount-some (c .before .before .before .pre .1 .0)), (amounts.sum-ready (c .before .before .before .pre .1 .0) (c .before .before .amount-kind .ensures) (c .enum-told3 .given .1), c .before .before .before .pre .1 .1))
+amount-magnitude-two-amounts-requires t c κs =
+    let h = c .before .before .before .pre .1 .0 in
+    let m = c .before .before .before .pre .1 .1 in
+    let k = c .before .before .amount-kind .ensures in
+    let q = c .enum-told3 .given .1 in
+    (omega (arith, amounts.amount-some h), (amounts.sum-ready h k q, m))
 
 amount-magnitude-sum-of-requires : (t : ℕ) → amount-magnitude-lts.Need-sum-of-requires (amount-magnitude-calls t) (amount-magnitude-at t) amount-magnitude.Post
 amount-magnitude-sum-of-requires t c κs = (laws.amount-kept _ _ (c .two-amounts .ensures .0), laws.amount-kept _ _ (c .two-amounts .ensures .1))
 
 amount-magnitude-sub-two-amounts-2 : (t : ℕ) → amount-magnitude-lts.Need-sub-two-amounts-2 (amount-magnitude-calls t) (amount-magnitude-at t) amount-magnitude.Post
-amount-magnitude-sub-two-amounts-2 t c = omega (arith, amounts.amount-some (c .before .before .before .pre .1 .0))
+amount-magnitude-sub-two-amounts-2 t c =
+    let h = c .before .before .before .pre .1 .0 in
+    omega (arith, amounts.amount-some h)
 
 amount-magnitude-two-amounts-requires-2 : (t : ℕ) → amount-magnitude-lts.Need-two-amounts-requires-2 (amount-magnitude-calls t) (amount-magnitude-at t) amount-magnitude.Post
-amount-magnitude-two-amounts-requires-2 t c κs = (omega (arith, amounts.amount-some (c .before .before .before .pre .1 .0)), (amounts.difference-ready (c .before .before .before .pre .1 .0) (c .before .before .amount-kind .ensures) (c .enum-told4 .given .1), c .before .before .before .pre .1 .1))
+amount-magnitude-two-amounts-requires-2 t c κs =
+    let h = c .before .before .before .pre .1 .0 in
+    let m = c .before .before .before .pre .1 .1 in
+    let k = c .before .before .amount-kind .ensures in
+    let q = c .enum-told4 .given .1 in
+    (omega (arith, amounts.amount-some h), (amounts.difference-ready h k q, m))
 
 amount-magnitude-sum-of-requires-2 : (t : ℕ) → amount-magnitude-lts.Need-sum-of-requires-2 (amount-magnitude-calls t) (amount-magnitude-at t) amount-magnitude.Post
 amount-magnitude-sum-of-requires-2 t c κs = (laws.amount-kept _ _ (c .two-amounts2 .ensures .0), laws.amount-kept _ _ (c .two-amounts2 .ensures .1))
 
 amount-magnitude-sub-two-amounts-3 : (t : ℕ) → amount-magnitude-lts.Need-sub-two-amounts-3 (amount-magnitude-calls t) (amount-magnitude-at t) amount-magnitude.Post
-amount-magnitude-sub-two-amounts-3 t c = omega (arith, amounts.amount-some (c .before .before .before .pre .1 .0))
+amount-magnitude-sub-two-amounts-3 t c =
+    let h = c .before .before .before .pre .1 .0 in
+    omega (arith, amounts.amount-some h)
 
 amount-magnitude-two-amounts-requires-3 : (t : ℕ) → amount-magnitude-lts.Need-two-amounts-requires-3 (amount-magnitude-calls t) (amount-magnitude-at t) amount-magnitude.Post
-amount-magnitude-two-amounts-requires-3 t c κs = (omega (arith, amounts.amount-some (c .before .before .before .pre .1 .0)), (amounts.product-ready (c .before .before .before .pre .1 .0) (c .before .before .amount-kind .ensures) (c .enum-told5 .given .1), c .before .before .before .pre .1 .1))
+amount-magnitude-two-amounts-requires-3 t c κs =
+    let h = c .before .before .before .pre .1 .0 in
+    let m = c .before .before .before .pre .1 .1 in
+    let k = c .before .before .amount-kind .ensures in
+    let q = c .enum-told5 .given .1 in
+    (omega (arith, amounts.amount-some h), (amounts.product-ready h k q, m))
 
 amount-magnitude-product-of-requires : (t : ℕ) → amount-magnitude-lts.Need-product-of-requires (amount-magnitude-calls t) (amount-magnitude-at t) amount-magnitude.Post
 amount-magnitude-product-of-requires t c κs = (laws.amount-kept _ _ (c .two-amounts3 .ensures .0), laws.amount-kept _ _ (c .two-amounts3 .ensures .1))
 
 amount-magnitude-add-amount-magnitude : (t : ℕ) → amount-magnitude-lts.Need-add-amount-magnitude (amount-magnitude-calls t) (amount-magnitude-at t) amount-magnitude.Post
-amount-magnitude-add-amount-magnitude t c = omega (arith, amounts.amount-room (c .before .before .before .pre .1 .0))
+amount-magnitude-add-amount-magnitude t c =
+    let h = c .before .before .before .pre .1 .0 in
+    omega (arith, amounts.amount-room h)
 
 amount-magnitude-sub-amount-magnitude : (t : ℕ) → amount-magnitude-lts.Need-sub-amount-magnitude (amount-magnitude-calls t) (amount-magnitude-at t) amount-magnitude.Post
-amount-magnitude-sub-amount-magnitude t c = omega (arith, amounts.amount-some (c .before .before .before .pre .1 .0))
+amount-magnitude-sub-amount-magnitude t c =
+    let h = c .before .before .before .pre .1 .0 in
+    omega (arith, amounts.amount-some h)
 
 amount-magnitude-amount-magnitude-requires : (t : ℕ) → amount-magnitude-lts.Need-amount-magnitude-requires (amount-magnitude-calls t) (amount-magnitude-at t) amount-magnitude.Post
-amount-magnitude-amount-magnitude-requires t c κs = (omega (arith, amounts.amount-some (c .before .before .before .pre .1 .0)), (amounts.quotient-ready (c .before .before .before .pre .1 .0) (c .before .before .amount-kind .ensures) (c .enum-told6 .given .1), c .before .before .before .pre .1 .1))
+amount-magnitude-amount-magnitude-requires t c κs =
+    let h = c .before .before .before .pre .1 .0 in
+    let m = c .before .before .before .pre .1 .1 in
+    let k = c .before .before .amount-kind .ensures in
+    let q = c .enum-told6 .given .1 in
+    (omega (arith, amounts.amount-some h), (amounts.quotient-ready h k q, m))
 
 amount-magnitude-add-test-small : (t : ℕ) → amount-magnitude-lts.Need-add-test-small (amount-magnitude-calls t) (amount-magnitude-at t) amount-magnitude.Post
-amount-magnitude-add-test-small t c = omega (arith, amounts.amount-room (c .before .before .before .pre .1 .0))
+amount-magnitude-add-test-small t c =
+    let h = c .before .before .before .pre .1 .0 in
+    omega (arith, amounts.amount-room h)
 
 amount-magnitude-sub-test-small : (t : ℕ) → amount-magnitude-lts.Need-sub-test-small (amount-magnitude-calls t) (amount-magnitude-at t) amount-magnitude.Post
-amount-magnitude-sub-test-small t c = omega (arith, amounts.amount-some (c .before .before .before .pre .1 .0))
+amount-magnitude-sub-test-small t c =
+    let h = c .before .before .before .pre .1 .0 in
+    omega (arith, amounts.amount-some h)
 
 amount-magnitude-test-small-requires : (t : ℕ) → amount-magnitude-lts.Need-test-small-requires (amount-magnitude-calls t) (amount-magnitude-at t) amount-magnitude.Post
-amount-magnitude-test-small-requires t c κs = (omega (arith, amounts.amount-some (c .before .before .before .pre .1 .0)), (amounts.choose-ready (c .before .before .before .pre .1 .0) (c .before .before .amount-kind .ensures) (c .enum-told7 .given .1) .0, c .before .before .before .pre .1 .1))
+amount-magnitude-test-small-requires t c κs =
+    let h = c .before .before .before .pre .1 .0 in
+    let m = c .before .before .before .pre .1 .1 in
+    let k = c .before .before .amount-kind .ensures in
+    let q = c .enum-told7 .given .1 in
+    (omega (arith, amounts.amount-some h), (amounts.choose-ready h k q .0, m))
 
 amount-magnitude-link-requires : (t : ℕ) → amount-magnitude-lts.Need-link-requires (amount-magnitude-calls t) (amount-magnitude-at t) amount-magnitude.Post
-amount-magnitude-link-requires t c κs = (amounts.amount-room (c .before .before .before .before .pre .1 .0), omega arith, amounts.choose-ready (c .before .before .before .before .pre .1 .0) (c .before .before .before .amount-kind .ensures) (c .before .enum-told7 .given .1) .1 .0)
+amount-magnitude-link-requires t c κs =
+    let h = c .before .before .before .before .pre .1 .0 in
+    let k = c .before .before .before .amount-kind .ensures in
+    let q = c .before .enum-told7 .given .1 in
+    (amounts.amount-room h, omega arith, amounts.choose-ready h k q .1 .0)
 
 amount-magnitude-sub-amount-magnitude-2 : (t : ℕ) → amount-magnitude-lts.Need-sub-amount-magnitude-2 (amount-magnitude-calls t) (amount-magnitude-at t) amount-magnitude.Post
-amount-magnitude-sub-amount-magnitude-2 t c = omega (arith, amounts.amount-some (c .before .before .before .before .before .pre .1 .0))
+amount-magnitude-sub-amount-magnitude-2 t c =
+    let h = c .before .before .before .before .before .pre .1 .0 in
+    omega (arith, amounts.amount-some h)
 
 amount-magnitude-amount-magnitude-requires-2 : (t : ℕ) → amount-magnitude-lts.Need-amount-magnitude-requires-2 (amount-magnitude-calls t) (amount-magnitude-at t) amount-magnitude.Post
-amount-magnitude-amount-magnitude-requires-2 t c κs = (omega (arith, amounts.amount-some (c .before .before .before .before .before .pre .1 .0)), rw (c .link .ensures) ((amounts.choose-ready (c .before .before .before .before .before .pre .1 .0) (c .before .before .before .before .amount-kind .ensures) (c .before .before .enum-told7 .given .1) .1 .1), c .before .before .before .before .before .pre .1 .1))
+amount-magnitude-amount-magnitude-requires-2 t c κs =
+    let h = c .before .before .before .before .before .pre .1 .0 in
+    let m = c .before .before .before .before .before .pre .1 .1 in
+    let k = c .before .before .before .before .amount-kind .ensures in
+    let q = c .before .before .enum-told7 .given .1 in
+    (omega (arith, amounts.amount-some h), rw (c .link .ensures) (amounts.choose-ready h k q .1 .1, m))
 
 amount-magnitude-link-requires-2 : (t : ℕ) → amount-magnitude-lts.Need-link-requires-2 (amount-magnitude-calls t) (amount-magnitude-at t) amount-magnitude.Post
-amount-magnitude-link-requires-2 t c κs = (amounts.amount-room (c .before .before .before .before .before .before .pre .1 .0), omega arith, amounts.choose-ready (c .before .before .before .before .before .before .pre .1 .0) (c .before .before .before .before .before .amount-kind .ensures) (c .before .before .before .enum-told7 .given .1) .2 .0)
+amount-magnitude-link-requires-2 t c κs =
+    let h = c .before .before .before .before .before .before .pre .1 .0 in
+    let k = c .before .before .before .before .before .amount-kind .ensures in
+    let q = c .before .before .before .enum-told7 .given .1 in
+    (amounts.amount-room h, omega arith, amounts.choose-ready h k q .2 .0)
 
 amount-magnitude-sub-amount-magnitude-3 : (t : ℕ) → amount-magnitude-lts.Need-sub-amount-magnitude-3 (amount-magnitude-calls t) (amount-magnitude-at t) amount-magnitude.Post
-amount-magnitude-sub-amount-magnitude-3 t c = omega (arith, amounts.amount-some (c .before .before .before .before .before .before .before .pre .1 .0))
+amount-magnitude-sub-amount-magnitude-3 t c =
+    let h = c .before .before .before .before .before .before .before .pre .1 .0 in
+    omega (arith, amounts.amount-some h)
 
 amount-magnitude-amount-magnitude-requires-3 : (t : ℕ) → amount-magnitude-lts.Need-amount-magnitude-requires-3 (amount-magnitude-calls t) (amount-magnitude-at t) amount-magnitude.Post
-amount-magnitude-amount-magnitude-requires-3 t c κs = (omega (arith, amounts.amount-some (c .before .before .before .before .before .before .before .pre .1 .0)), rw (c .link2 .ensures) ((amounts.choose-ready (c .before .before .before .before .before .before .before .pre .1 .0) (c .before .before .before .before .before .before .amount-kind .ensures) (c .before .before .before .before .enum-told7 .given .1) .2 .1), c .before .before .before .before .before .before .before .pre .1 .1))
+amount-magnitude-amount-magnitude-requires-3 t c κs =
+    let h = c .before .before .before .before .before .before .before .pre .1 .0 in
+    let m = c .before .before .before .before .before .before .before .pre .1 .1 in
+    let k = c .before .before .before .before .before .before .amount-kind .ensures in
+    let q = c .before .before .before .before .enum-told7 .given .1 in
+    (omega (arith, amounts.amount-some h), rw (c .link2 .ensures) (amounts.choose-ready h k q .2 .1, m))
 
 amount-magnitude-greater-of-requires : (t : ℕ) → amount-magnitude-lts.Need-greater-of-requires (amount-magnitude-calls t) (amount-magnitude-at t) amount-magnitude.Post
 amount-magnitude-greater-of-requires t c κs = (laws.amount-kept _ _ (c .before .before .before .amount-magnitude2 .ensures), laws.amount-kept _ _ (c .before .amount-magnitude3 .ensures))
 
 amount-magnitude-returns : (t : ℕ) → amount-magnitude-lts.Need-returns (amount-magnitude-calls t) (amount-magnitude-at t) amount-magnitude.Post
-amount-magnitude-returns t c = laws.choose-magnitude (c .before .before .before .before .before .before .before .before .before .before .args .bounds .now) (c .before .before .before .before .before .before .before .before .before .before .pre .1 .0) (c .before .before .before .before .before .before .before .before .before .amount-kind .ensures) (c .before .before .before .before .before .before .before .enum-told7 .given .1) (c .before .before .before .before .before .before .test-small .ensures) (c .before .if1 .taken) (c .before .before .before .before .before .link .ensures) (c .before .before .before .link2 .ensures) (c .before .before .before .before .amount-magnitude2 .ensures) (c .before .before .amount-magnitude3 .ensures) (c .greater-of .ensures)
+amount-magnitude-returns t c =
+    let h = c .before .before .before .before .before .before .before .before .before .before .pre .1 .0 in
+    let b = c .before .before .before .before .before .before .before .before .before .before .args .bounds .now in
+    let k = c .before .before .before .before .before .before .before .before .before .amount-kind .ensures in
+    let q = c .before .before .before .before .before .before .before .enum-told7 .given .1 in
+    let t = c .before .before .before .before .before .before .test-small .ensures in
+    let x = c .before .before .before .before .amount-magnitude2 .ensures in
+    let y = c .before .before .amount-magnitude3 .ensures in
+    laws.choose-magnitude b h k q t (c .before .if1 .taken) (c .before .before .before .before .before .link .ensures) (c .before .before .before .link2 .ensures) x y (c .greater-of .ensures)
 
 amount-magnitude-returns-2 : (t : ℕ) → amount-magnitude-lts.Need-returns-2 (amount-magnitude-calls t) (amount-magnitude-at t) amount-magnitude.Post
-amount-magnitude-returns-2 t c = laws.number-magnitude (c .before .before .before .before .args .bounds .now) (c .before .before .before .before .pre .1 .0) (c .before .before .before .amount-kind .ensures) (c .before .enum-told .given .1) (c .distance .ensures)
+amount-magnitude-returns-2 t c =
+    let h = c .before .before .before .before .pre .1 .0 in
+    let b = c .before .before .before .before .args .bounds .now in
+    let k = c .before .before .before .amount-kind .ensures in
+    let q = c .before .enum-told .given .1 in
+    laws.number-magnitude b h k q (c .distance .ensures)
 
 amount-magnitude-returns-3 : (t : ℕ) → amount-magnitude-lts.Need-returns-3 (amount-magnitude-calls t) (amount-magnitude-at t) amount-magnitude.Post
-amount-magnitude-returns-3 t c = laws.index-magnitude (c .before .before .before .before .before .args .bounds .now) (c .before .before .before .before .before .pre .1 .0) (c .before .before .before .before .amount-kind .ensures) (c .before .before .enum-told2 .given .1) (c .before .before .before .before .before .pre .1 .1) (c .before .label .ensures) (c .bound-of .ensures)
+amount-magnitude-returns-3 t c =
+    let h = c .before .before .before .before .before .pre .1 .0 in
+    let m = c .before .before .before .before .before .pre .1 .1 in
+    let b = c .before .before .before .before .before .args .bounds .now in
+    let k = c .before .before .before .before .amount-kind .ensures in
+    let q = c .before .before .enum-told2 .given .1 in
+    laws.index-magnitude b h k q m (c .before .label .ensures) (c .bound-of .ensures)
 
 amount-magnitude-returns-4 : (t : ℕ) → amount-magnitude-lts.Need-returns-4 (amount-magnitude-calls t) (amount-magnitude-at t) amount-magnitude.Post
-amount-magnitude-returns-4 t c = laws.sum-magnitude (c .before .before .before .before .before .args .bounds .now) (c .before .before .before .before .before .pre .1 .0) (c .before .before .before .before .amount-kind .ensures) (c .before .two-amounts .ensures .0) (c .before .two-amounts .ensures .1) (c .before .before .enum-told3 .given .1) (c .sum-of .ensures)
+amount-magnitude-returns-4 t c =
+    let h = c .before .before .before .before .before .pre .1 .0 in
+    let b = c .before .before .before .before .before .args .bounds .now in
+    let k = c .before .before .before .before .amount-kind .ensures in
+    let q = c .before .before .enum-told3 .given .1 in
+    let e = c .before .two-amounts .ensures in
+    laws.sum-magnitude b h k (e .0) (e .1) q (c .sum-of .ensures)
 
 amount-magnitude-returns-5 : (t : ℕ) → amount-magnitude-lts.Need-returns-5 (amount-magnitude-calls t) (amount-magnitude-at t) amount-magnitude.Post
-amount-magnitude-returns-5 t c = laws.difference-magnitude (c .before .before .before .before .before .args .bounds .now) (c .before .before .before .before .before .pre .1 .0) (c .before .before .before .before .amount-kind .ensures) (c .before .two-amounts2 .ensures .0) (c .before .two-amounts2 .ensures .1) (c .before .before .enum-told4 .given .1) (c .sum-of2 .ensures)
+amount-magnitude-returns-5 t c =
+    let h = c .before .before .before .before .before .pre .1 .0 in
+    let b = c .before .before .before .before .before .args .bounds .now in
+    let k = c .before .before .before .before .amount-kind .ensures in
+    let q = c .before .before .enum-told4 .given .1 in
+    let e = c .before .two-amounts2 .ensures in
+    laws.difference-magnitude b h k (e .0) (e .1) q (c .sum-of2 .ensures)
 
 amount-magnitude-returns-6 : (t : ℕ) → amount-magnitude-lts.Need-returns-6 (amount-magnitude-calls t) (amount-magnitude-at t) amount-magnitude.Post
-amount-magnitude-returns-6 t c = laws.product-magnitude (c .before .before .before .before .before .args .bounds .now) (c .before .before .before .before .before .pre .1 .0) (c .before .before .before .before .amount-kind .ensures) (c .before .two-amounts3 .ensures .0) (c .before .two-amounts3 .ensures .1) (c .before .before .enum-told5 .given .1) (c .product-of .ensures)
+amount-magnitude-returns-6 t c =
+    let h = c .before .before .before .before .before .pre .1 .0 in
+    let b = c .before .before .before .before .before .args .bounds .now in
+    let k = c .before .before .before .before .amount-kind .ensures in
+    let q = c .before .before .enum-told5 .given .1 in
+    let e = c .before .two-amounts3 .ensures in
+    laws.product-magnitude b h k (e .0) (e .1) q (c .product-of .ensures)
 
 amount-magnitude-returns-7 : (t : ℕ) → amount-magnitude-lts.Need-returns-7 (amount-magnitude-calls t) (amount-magnitude-at t) amount-magnitude.Post
-amount-magnitude-returns-7 t c = laws.quotient-magnitude (c .before .before .before .before .args .bounds .now) (c .before .before .before .before .pre .1 .0) (c .before .before .before .amount-kind .ensures) (c .before .enum-told6 .given .1) (c .amount-magnitude .ensures)
+amount-magnitude-returns-7 t c =
+    let h = c .before .before .before .before .pre .1 .0 in
+    let b = c .before .before .before .before .args .bounds .now in
+    let k = c .before .before .before .amount-kind .ensures in
+    let q = c .before .enum-told6 .given .1 in
+    laws.quotient-magnitude b h k q (c .amount-magnitude .ensures)
 
 amount-magnitude-returns-8 : (t : ℕ) → amount-magnitude-lts.Need-returns-8 (amount-magnitude-calls t) (amount-magnitude-at t) amount-magnitude.Post
-amount-magnitude-returns-8 t c = laws.choose-beyond (c .before .before .before .before .before .before .before .before .before .args .bounds .now) (c .before .before .before .before .before .before .before .before .before .pre .1 .0) (c .before .before .before .before .before .before .before .before .amount-kind .ensures) (c .before .before .before .before .before .before .enum-told7 .given .1) (c .before .before .before .before .before .test-small .ensures) (c .if1 .left)
+amount-magnitude-returns-8 t c =
+    let h = c .before .before .before .before .before .before .before .before .before .pre .1 .0 in
+    let b = c .before .before .before .before .before .before .before .before .before .args .bounds .now in
+    let k = c .before .before .before .before .before .before .before .before .amount-kind .ensures in
+    let q = c .before .before .before .before .before .before .enum-told7 .given .1 in
+    laws.choose-beyond b h k q (c .before .before .before .before .before .test-small .ensures) (c .if1 .left)
 
 amount-magnitude-returns-9 : (t : ℕ) → amount-magnitude-lts.Need-returns-9 (amount-magnitude-calls t) (amount-magnitude-at t) amount-magnitude.Post
-amount-magnitude-returns-9 t c = laws.no-amount-magnitude (c .before .before .before .args .bounds .now) (c .before .before .before .pre .1 .0) (c .before .before .amount-kind .ensures) (c .enum-told8 .given .1)
+amount-magnitude-returns-9 t c =
+    let h = c .before .before .before .pre .1 .0 in
+    let b = c .before .before .before .args .bounds .now in
+    let k = c .before .before .amount-kind .ensures in
+    let q = c .enum-told8 .given .1 in
+    laws.no-amount-magnitude b h k q
 
 amount-magnitude-part : {M : Type 1} (t : ℕ) → amount-magnitude-lts.Closed (amount-magnitude-calls t) (amount-magnitude-at t) amount-magnitude.Post M
 amount-magnitude-part t =
@@ -240,58 +365,129 @@ abbrev test-small-calls : ℕ → test-small-lts.Claims
 test-small-calls t = (test-kind-reads.Asked, test-kind-reads.Learnt, two-amounts-below t, two-amounts.Post, both-within-reads.Asked, both-within-reads.Learnt, two-tests-below t, two-tests.Post, test-small-below t, test-small.Post)
 
 test-small-test-kind-requires : (t : ℕ) → test-small-lts.Need-test-kind-requires (test-small-calls t) (test-small-at t) test-small.Post
-test-small-test-kind-requires t c κs = amounts.test-room (c .pre .1 .0)
+test-small-test-kind-requires t c κs =
+    let h = c .pre .1 .0 in
+    amounts.test-room h
 
 test-small-sub-two-amounts : (t : ℕ) → test-small-lts.Need-sub-two-amounts (test-small-calls t) (test-small-at t) test-small.Post
-test-small-sub-two-amounts t c = omega (arith, amounts.test-some (c .before .before .before .pre .1 .0))
+test-small-sub-two-amounts t c =
+    let h = c .before .before .before .pre .1 .0 in
+    omega (arith, amounts.test-some h)
 
 test-small-two-amounts-requires : (t : ℕ) → test-small-lts.Need-two-amounts-requires (test-small-calls t) (test-small-at t) test-small.Post
-test-small-two-amounts-requires t c κs = (omega (arith, amounts.test-some (c .before .before .before .pre .1 .0)), (amounts.less-ready (c .before .before .before .pre .1 .0) (c .before .before .test-kind .ensures) (c .enum-told .given .1), c .before .before .before .pre .1 .1))
+test-small-two-amounts-requires t c κs =
+    let h = c .before .before .before .pre .1 .0 in
+    let m = c .before .before .before .pre .1 .1 in
+    let k = c .before .before .test-kind .ensures in
+    let q = c .enum-told .given .1 in
+    (omega (arith, amounts.test-some h), (amounts.less-ready h k q, m))
 
 test-small-sub-two-amounts-2 : (t : ℕ) → test-small-lts.Need-sub-two-amounts-2 (test-small-calls t) (test-small-at t) test-small.Post
-test-small-sub-two-amounts-2 t c = omega (arith, amounts.test-some (c .before .before .before .pre .1 .0))
+test-small-sub-two-amounts-2 t c =
+    let h = c .before .before .before .pre .1 .0 in
+    omega (arith, amounts.test-some h)
 
 test-small-two-amounts-requires-2 : (t : ℕ) → test-small-lts.Need-two-amounts-requires-2 (test-small-calls t) (test-small-at t) test-small.Post
-test-small-two-amounts-requires-2 t c κs = (omega (arith, amounts.test-some (c .before .before .before .pre .1 .0)), (amounts.equal-ready (c .before .before .before .pre .1 .0) (c .before .before .test-kind .ensures) (c .enum-told2 .given .1), c .before .before .before .pre .1 .1))
+test-small-two-amounts-requires-2 t c κs =
+    let h = c .before .before .before .pre .1 .0 in
+    let m = c .before .before .before .pre .1 .1 in
+    let k = c .before .before .test-kind .ensures in
+    let q = c .enum-told2 .given .1 in
+    (omega (arith, amounts.test-some h), (amounts.equal-ready h k q, m))
 
 test-small-sub-two-tests : (t : ℕ) → test-small-lts.Need-sub-two-tests (test-small-calls t) (test-small-at t) test-small.Post
-test-small-sub-two-tests t c = omega (arith, amounts.test-some (c .before .before .before .pre .1 .0))
+test-small-sub-two-tests t c =
+    let h = c .before .before .before .pre .1 .0 in
+    omega (arith, amounts.test-some h)
 
 test-small-two-tests-requires : (t : ℕ) → test-small-lts.Need-two-tests-requires (test-small-calls t) (test-small-at t) test-small.Post
-test-small-two-tests-requires t c κs = (omega (arith, amounts.test-some (c .before .before .before .pre .1 .0)), (amounts.conjunction-ready (c .before .before .before .pre .1 .0) (c .before .before .test-kind .ensures) (c .enum-told3 .given .1), c .before .before .before .pre .1 .1))
+test-small-two-tests-requires t c κs =
+    let h = c .before .before .before .pre .1 .0 in
+    let m = c .before .before .before .pre .1 .1 in
+    let k = c .before .before .test-kind .ensures in
+    let q = c .enum-told3 .given .1 in
+    (omega (arith, amounts.test-some h), (amounts.conjunction-ready h k q, m))
 
 test-small-sub-two-tests-2 : (t : ℕ) → test-small-lts.Need-sub-two-tests-2 (test-small-calls t) (test-small-at t) test-small.Post
-test-small-sub-two-tests-2 t c = omega (arith, amounts.test-some (c .before .before .before .pre .1 .0))
+test-small-sub-two-tests-2 t c =
+    let h = c .before .before .before .pre .1 .0 in
+    omega (arith, amounts.test-some h)
 
 test-small-two-tests-requires-2 : (t : ℕ) → test-small-lts.Need-two-tests-requires-2 (test-small-calls t) (test-small-at t) test-small.Post
-test-small-two-tests-requires-2 t c κs = (omega (arith, amounts.test-some (c .before .before .before .pre .1 .0)), (amounts.disjunction-ready (c .before .before .before .pre .1 .0) (c .before .before .test-kind .ensures) (c .enum-told4 .given .1), c .before .before .before .pre .1 .1))
+test-small-two-tests-requires-2 t c κs =
+    let h = c .before .before .before .pre .1 .0 in
+    let m = c .before .before .before .pre .1 .1 in
+    let k = c .before .before .test-kind .ensures in
+    let q = c .enum-told4 .given .1 in
+    (omega (arith, amounts.test-some h), (amounts.disjunction-ready h k q, m))
 
 test-small-add-test-small : (t : ℕ) → test-small-lts.Need-add-test-small (test-small-calls t) (test-small-at t) test-small.Post
-test-small-add-test-small t c = omega (arith, amounts.test-room (c .before .before .before .pre .1 .0))
+test-small-add-test-small t c =
+    let h = c .before .before .before .pre .1 .0 in
+    omega (arith, amounts.test-room h)
 
 test-small-sub-test-small : (t : ℕ) → test-small-lts.Need-sub-test-small (test-small-calls t) (test-small-at t) test-small.Post
-test-small-sub-test-small t c = omega (arith, amounts.test-some (c .before .before .before .pre .1 .0))
+test-small-sub-test-small t c =
+    let h = c .before .before .before .pre .1 .0 in
+    omega (arith, amounts.test-some h)
 
 test-small-test-small-requires : (t : ℕ) → test-small-lts.Need-test-small-requires (test-small-calls t) (test-small-at t) test-small.Post
-test-small-test-small-requires t c κs = (omega (arith, amounts.test-some (c .before .before .before .pre .1 .0)), (amounts.negation-ready (c .before .before .before .pre .1 .0) (c .before .before .test-kind .ensures) (c .enum-told5 .given .1), c .before .before .before .pre .1 .1))
+test-small-test-small-requires t c κs =
+    let h = c .before .before .before .pre .1 .0 in
+    let m = c .before .before .before .pre .1 .1 in
+    let k = c .before .before .test-kind .ensures in
+    let q = c .enum-told5 .given .1 in
+    (omega (arith, amounts.test-some h), (amounts.negation-ready h k q, m))
 
 test-small-returns : (t : ℕ) → test-small-lts.Need-returns (test-small-calls t) (test-small-at t) test-small.Post
-test-small-returns t c = laws.less-small (c .before .before .before .before .before .args .bounds .now) (c .before .before .before .before .before .pre .1 .0) (c .before .before .before .before .test-kind .ensures) (c .before .two-amounts .ensures .0) (c .before .two-amounts .ensures .1) (c .both-within .ensures) (c .before .before .enum-told .given .1)
+test-small-returns t c =
+    let h = c .before .before .before .before .before .pre .1 .0 in
+    let b = c .before .before .before .before .before .args .bounds .now in
+    let k = c .before .before .before .before .test-kind .ensures in
+    let q = c .before .before .enum-told .given .1 in
+    let e = c .before .two-amounts .ensures in
+    laws.less-small b h k (e .0) (e .1) (c .both-within .ensures) q
 
 test-small-returns-2 : (t : ℕ) → test-small-lts.Need-returns-2 (test-small-calls t) (test-small-at t) test-small.Post
-test-small-returns-2 t c = laws.equal-small (c .before .before .before .before .before .args .bounds .now) (c .before .before .before .before .before .pre .1 .0) (c .before .before .before .before .test-kind .ensures) (c .before .two-amounts2 .ensures .0) (c .before .two-amounts2 .ensures .1) (c .both-within2 .ensures) (c .before .before .enum-told2 .given .1)
+test-small-returns-2 t c =
+    let h = c .before .before .before .before .before .pre .1 .0 in
+    let b = c .before .before .before .before .before .args .bounds .now in
+    let k = c .before .before .before .before .test-kind .ensures in
+    let q = c .before .before .enum-told2 .given .1 in
+    let e = c .before .two-amounts2 .ensures in
+    laws.equal-small b h k (e .0) (e .1) (c .both-within2 .ensures) q
 
 test-small-returns-3 : (t : ℕ) → test-small-lts.Need-returns-3 (test-small-calls t) (test-small-at t) test-small.Post
-test-small-returns-3 t c = laws.conjunction-small (c .before .before .before .before .args .bounds .now) (c .before .before .before .before .pre .1 .0) (c .before .before .before .test-kind .ensures) (c .before .enum-told3 .given .1) (c .two-tests .ensures)
+test-small-returns-3 t c =
+    let h = c .before .before .before .before .pre .1 .0 in
+    let b = c .before .before .before .before .args .bounds .now in
+    let k = c .before .before .before .test-kind .ensures in
+    let q = c .before .enum-told3 .given .1 in
+    laws.conjunction-small b h k q (c .two-tests .ensures)
 
 test-small-returns-4 : (t : ℕ) → test-small-lts.Need-returns-4 (test-small-calls t) (test-small-at t) test-small.Post
-test-small-returns-4 t c = laws.disjunction-small (c .before .before .before .before .args .bounds .now) (c .before .before .before .before .pre .1 .0) (c .before .before .before .test-kind .ensures) (c .before .enum-told4 .given .1) (c .two-tests2 .ensures)
+test-small-returns-4 t c =
+    let h = c .before .before .before .before .pre .1 .0 in
+    let b = c .before .before .before .before .args .bounds .now in
+    let k = c .before .before .before .test-kind .ensures in
+    let q = c .before .enum-told4 .given .1 in
+    laws.disjunction-small b h k q (c .two-tests2 .ensures)
 
 test-small-returns-5 : (t : ℕ) → test-small-lts.Need-returns-5 (test-small-calls t) (test-small-at t) test-small.Post
-test-small-returns-5 t c = laws.negation-small (c .before .before .before .before .args .bounds .now) (c .before .before .before .before .pre .1 .0) (c .before .before .before .test-kind .ensures) (c .before .enum-told5 .given .1) (c .test-small .ensures)
+test-small-returns-5 t c =
+    let h = c .before .before .before .before .pre .1 .0 in
+    let b = c .before .before .before .before .args .bounds .now in
+    let k = c .before .before .before .test-kind .ensures in
+    let q = c .before .enum-told5 .given .1 in
+    laws.negation-small b h k q (c .test-small .ensures)
 
 test-small-returns-6 : (t : ℕ) → test-small-lts.Need-returns-6 (test-small-calls t) (test-small-at t) test-small.Post
-test-small-returns-6 t c = laws.no-test-small (c .before .before .before .args .bounds .now) (c .before .before .before .pre .1 .0) (c .before .before .test-kind .ensures) (c .enum-told6 .given .1)
+test-small-returns-6 t c =
+    let h = c .before .before .before .pre .1 .0 in
+    let b = c .before .before .before .args .bounds .now in
+    let k = c .before .before .test-kind .ensures in
+    let q = c .enum-told6 .given .1 in
+    laws.no-test-small b h k q
 
 test-small-part : {M : Type 1} (t : ℕ) → test-small-lts.Closed (test-small-calls t) (test-small-at t) test-small.Post M
 test-small-part t =
@@ -327,16 +523,26 @@ abbrev two-amounts-calls : ℕ → two-amounts-lts.Claims
 two-amounts-calls t = (amount-magnitude-below t, amount-magnitude.Post, link-reads.Asked, link-reads.Learnt)
 
 two-amounts-add-amount-magnitude : (t : ℕ) → two-amounts-lts.Need-add-amount-magnitude (two-amounts-calls t) (two-amounts-at t) two-amounts.Post
-two-amounts-add-amount-magnitude t c = omega (arith, (c .pre .1 .0) .room)
+two-amounts-add-amount-magnitude t c =
+    let h = c .pre .1 .0 in
+    omega (arith, h .room)
 
 two-amounts-amount-magnitude-requires : (t : ℕ) → two-amounts-lts.Need-amount-magnitude-requires (two-amounts-calls t) (two-amounts-at t) two-amounts.Post
-two-amounts-amount-magnitude-requires t c κs = (omega arith, ((c .pre .1 .0) .first, c .pre .1 .1))
+two-amounts-amount-magnitude-requires t c κs =
+    let h = c .pre .1 .0 in
+    let m = c .pre .1 .1 in
+    (omega arith, (h .first, m))
 
 two-amounts-link-requires : (t : ℕ) → two-amounts-lts.Need-link-requires (two-amounts-calls t) (two-amounts-at t) two-amounts.Post
-two-amounts-link-requires t c κs = ((c .before .pre .1 .0) .room, omega arith, (c .before .pre .1 .0) .forward)
+two-amounts-link-requires t c κs =
+    let h = c .before .pre .1 .0 in
+    (h .room, omega arith, h .forward)
 
 two-amounts-amount-magnitude-requires-2 : (t : ℕ) → two-amounts-lts.Need-amount-magnitude-requires-2 (two-amounts-calls t) (two-amounts-at t) two-amounts.Post
-two-amounts-amount-magnitude-requires-2 t c κs = (omega arith, rw (c .link .ensures) (((c .before .before .pre .1 .0) .second), c .before .before .pre .1 .1))
+two-amounts-amount-magnitude-requires-2 t c κs =
+    let h = c .before .before .pre .1 .0 in
+    let m = c .before .before .pre .1 .1 in
+    (omega arith, rw (c .link .ensures) (h .second, m))
 
 two-amounts-returns : (t : ℕ) → two-amounts-lts.Need-returns (two-amounts-calls t) (two-amounts-at t) two-amounts.Post
 two-amounts-returns t c = rw (← c .before .link .ensures) (c .before .before .amount-magnitude .ensures, c .amount-magnitude2 .ensures)
@@ -354,16 +560,26 @@ abbrev two-tests-calls : ℕ → two-tests-lts.Claims
 two-tests-calls t = (test-small-below t, test-small.Post, link-reads.Asked, link-reads.Learnt)
 
 two-tests-add-test-small : (t : ℕ) → two-tests-lts.Need-add-test-small (two-tests-calls t) (two-tests-at t) two-tests.Post
-two-tests-add-test-small t c = omega (arith, (c .pre .1 .0) .room)
+two-tests-add-test-small t c =
+    let h = c .pre .1 .0 in
+    omega (arith, h .room)
 
 two-tests-test-small-requires : (t : ℕ) → two-tests-lts.Need-test-small-requires (two-tests-calls t) (two-tests-at t) two-tests.Post
-two-tests-test-small-requires t c κs = (omega arith, ((c .pre .1 .0) .first, c .pre .1 .1))
+two-tests-test-small-requires t c κs =
+    let h = c .pre .1 .0 in
+    let m = c .pre .1 .1 in
+    (omega arith, (h .first, m))
 
 two-tests-link-requires : (t : ℕ) → two-tests-lts.Need-link-requires (two-tests-calls t) (two-tests-at t) two-tests.Post
-two-tests-link-requires t c κs = ((c .before .pre .1 .0) .room, omega arith, (c .before .pre .1 .0) .forward)
+two-tests-link-requires t c κs =
+    let h = c .before .pre .1 .0 in
+    (h .room, omega arith, h .forward)
 
 two-tests-test-small-requires-2 : (t : ℕ) → two-tests-lts.Need-test-small-requires-2 (two-tests-calls t) (two-tests-at t) two-tests.Post
-two-tests-test-small-requires-2 t c κs = (omega arith, rw (c .link .ensures) (((c .before .before .pre .1 .0) .second), c .before .before .pre .1 .1))
+two-tests-test-small-requires-2 t c κs =
+    let h = c .before .before .pre .1 .0 in
+    let m = c .before .before .pre .1 .1 in
+    (omega arith, rw (c .link .ensures) (h .second, m))
 
 two-tests-returns : (t : ℕ) → two-tests-lts.Need-returns (two-tests-calls t) (two-tests-at t) two-tests.Post
 two-tests-returns t c = rw (← c .before .link .ensures) (ap₂ _&&_ (c .before .before .test-small .ensures) (c .test-small2 .ensures))

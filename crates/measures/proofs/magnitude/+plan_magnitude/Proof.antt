@@ -1,37 +1,38 @@
-use borrow.Author.Needs.{needs}
-use native.Mathlib.Omega.{arith}
-use mathlib.Core.Path.{_≡_, refl, sym, ap, ap₂, subst, _∙_}
+use Prim.Native.Nat.{_<_, ℕ}
 use Rattle.measures.proofs.AmountMagnitudes as amounts
 use Rattle.measures.proofs.PlanMagnitudes as laws
 use Rattle.measures.proofs.Plans as plans
-use Prim.Native.Nat.{ℕ, _<_}
-use borrow.Fn.Kinds.{In}
-use borrow.Fn.PlainCycle.{Measures, is, falls, and}
-use Rattle.measures.proofs.magnitude.plan_magnitude.Reads as plan-magnitude
-use Rattle.measures.proofs.magnitude.plan_magnitude.Kinds as plan-magnitude-kinds
-use Rattle.measures.proofs.magnitude.+plan_magnitude.Lts-plan_magnitude as plan-magnitude-lts
 use Rattle.measures.proofs.limit.greater_of.Reads as greater-of-reads
 use Rattle.measures.proofs.limit.product_of.Reads as product-of-reads
 use Rattle.measures.proofs.limit.sum_of.Reads as sum-of-reads
+use Rattle.measures.proofs.magnitude.+plan_magnitude.Lts-plan_magnitude as plan-magnitude-lts
+use Rattle.measures.proofs.magnitude.+plan_magnitude.Tie.{close}
+use Rattle.measures.proofs.magnitude.+plan_magnitude.{statement}
 use Rattle.measures.proofs.magnitude.amount_magnitude.Reads as amount-magnitude-reads
+use Rattle.measures.proofs.magnitude.plan_magnitude.Kinds as plan-magnitude-kinds
+use Rattle.measures.proofs.magnitude.plan_magnitude.Reads as plan-magnitude
 use Rattle.measures.proofs.magnitude.test_small.Reads as test-small-reads
 use Rattle.measures.proofs.node.plan_kind.Reads as plan-kind-reads
 use Rattle.nodes.proofs.link.Reads as link-reads
-use Rattle.measures.proofs.magnitude.+plan_magnitude.{statement}
-use Rattle.measures.proofs.magnitude.+plan_magnitude.Tie.{close}
+use borrow.Author.Needs.{needs}
+use borrow.Fn.Kinds.{In}
+use borrow.Fn.PlainCycle.{Measures, and, falls, is}
+use native.Mathlib.Omega.{arith}
 
 abbrev μ-plan-magnitude : Measures 2 plan-magnitude-kinds.ps ℕ
 μ-plan-magnitude κs a = a .1 .1 .0
 
 abbrev plan-magnitude-at : ℕ → In 2 plan-magnitude-kinds.ps
-plan-magnitude-at t = and
+plan-magnitude-at t =
+    and
     2
     plan-magnitude-kinds.ps
     (is 2 plan-magnitude-kinds.ps μ-plan-magnitude t)
     plan-magnitude.Pre
 
 abbrev plan-magnitude-below : ℕ → In 2 plan-magnitude-kinds.ps
-plan-magnitude-below t = and
+plan-magnitude-below t =
+    and
     2
     plan-magnitude-kinds.ps
     (falls 2 plan-magnitude-kinds.ps _<_ μ-plan-magnitude t)
@@ -41,106 +42,227 @@ abbrev plan-magnitude-calls : ℕ → plan-magnitude-lts.Claims
 plan-magnitude-calls t = (plan-kind-reads.Asked, plan-kind-reads.Learnt, amount-magnitude-reads.Asked, amount-magnitude-reads.Learnt, link-reads.Asked, link-reads.Learnt, plan-magnitude-below t, plan-magnitude.Post, product-of-reads.Asked, product-of-reads.Learnt, sum-of-reads.Asked, sum-of-reads.Learnt, test-small-reads.Asked, test-small-reads.Learnt, greater-of-reads.Asked, greater-of-reads.Learnt)
 
 plan-magnitude-plan-kind-requires : (t : ℕ) → plan-magnitude-lts.Need-plan-kind-requires (plan-magnitude-calls t) (plan-magnitude-at t) plan-magnitude.Post
-plan-magnitude-plan-kind-requires t c κs = plans.plan-room (c .pre .1 .0)
+plan-magnitude-plan-kind-requires t c κs =
+    let h = c .pre .1 .0 in
+    plans.plan-room h
 
 plan-magnitude-add-amount-magnitude : (t : ℕ) → plan-magnitude-lts.Need-add-amount-magnitude (plan-magnitude-calls t) (plan-magnitude-at t) plan-magnitude.Post
-plan-magnitude-add-amount-magnitude t c = omega (arith, plans.plan-room (c .before .before .before .pre .1 .0))
+plan-magnitude-add-amount-magnitude t c =
+    let h = c .before .before .before .pre .1 .0 in
+    omega (arith, plans.plan-room h)
 
 plan-magnitude-amount-magnitude-requires : (t : ℕ) → plan-magnitude-lts.Need-amount-magnitude-requires (plan-magnitude-calls t) (plan-magnitude-at t) plan-magnitude.Post
-plan-magnitude-amount-magnitude-requires t c κs = (plans.scale-ready (c .before .before .before .pre .1 .0) (c .before .before .plan-kind .ensures) (c .enum-told3 .given .1) .0, c .before .before .before .pre .1 .1)
+plan-magnitude-amount-magnitude-requires t c κs =
+    let h = c .before .before .before .pre .1 .0 in
+    let m = c .before .before .before .pre .1 .1 in
+    let k = c .before .before .plan-kind .ensures in
+    let q = c .enum-told3 .given .1 in
+    (plans.scale-ready h k q .0, m)
 
 plan-magnitude-link-requires : (t : ℕ) → plan-magnitude-lts.Need-link-requires (plan-magnitude-calls t) (plan-magnitude-at t) plan-magnitude.Post
-plan-magnitude-link-requires t c κs = (plans.plan-room (c .before .before .before .before .pre .1 .0), omega arith, plans.scale-ready (c .before .before .before .before .pre .1 .0) (c .before .before .before .plan-kind .ensures) (c .before .enum-told3 .given .1) .1)
+plan-magnitude-link-requires t c κs =
+    let h = c .before .before .before .before .pre .1 .0 in
+    let k = c .before .before .before .plan-kind .ensures in
+    let q = c .before .enum-told3 .given .1 in
+    (plans.plan-room h, omega arith, plans.scale-ready h k q .1)
 
 plan-magnitude-sub-plan-magnitude : (t : ℕ) → plan-magnitude-lts.Need-sub-plan-magnitude (plan-magnitude-calls t) (plan-magnitude-at t) plan-magnitude.Post
-plan-magnitude-sub-plan-magnitude t c = omega (arith, plans.plan-some (c .before .before .before .before .before .pre .1 .0))
+plan-magnitude-sub-plan-magnitude t c =
+    let h = c .before .before .before .before .before .pre .1 .0 in
+    omega (arith, plans.plan-some h)
 
 plan-magnitude-plan-magnitude-requires : (t : ℕ) → plan-magnitude-lts.Need-plan-magnitude-requires (plan-magnitude-calls t) (plan-magnitude-at t) plan-magnitude.Post
-plan-magnitude-plan-magnitude-requires t c κs = (omega (arith, plans.plan-some (c .before .before .before .before .before .pre .1 .0)), rw (c .link .ensures) (plans.scale-ready (c .before .before .before .before .before .pre .1 .0) (c .before .before .before .before .plan-kind .ensures) (c .before .before .enum-told3 .given .1) .2, c .before .before .before .before .before .pre .1 .1))
+plan-magnitude-plan-magnitude-requires t c κs =
+    let h = c .before .before .before .before .before .pre .1 .0 in
+    let m = c .before .before .before .before .before .pre .1 .1 in
+    let k = c .before .before .before .before .plan-kind .ensures in
+    let q = c .before .before .enum-told3 .given .1 in
+    (omega (arith, plans.plan-some h), rw (c .link .ensures) (plans.scale-ready h k q .2, m))
 
 plan-magnitude-product-of-requires : (t : ℕ) → plan-magnitude-lts.Need-product-of-requires (plan-magnitude-calls t) (plan-magnitude-at t) plan-magnitude.Post
 plan-magnitude-product-of-requires t c κs = (amounts.amount-kept _ _ (c .before .before .amount-magnitude .ensures), laws.plan-kept _ _ (c .plan-magnitude .ensures))
 
 plan-magnitude-add-plan-magnitude : (t : ℕ) → plan-magnitude-lts.Need-add-plan-magnitude (plan-magnitude-calls t) (plan-magnitude-at t) plan-magnitude.Post
-plan-magnitude-add-plan-magnitude t c = omega (arith, plans.plan-room (c .before .before .before .pre .1 .0))
+plan-magnitude-add-plan-magnitude t c =
+    let h = c .before .before .before .pre .1 .0 in
+    omega (arith, plans.plan-room h)
 
 plan-magnitude-sub-plan-magnitude-2 : (t : ℕ) → plan-magnitude-lts.Need-sub-plan-magnitude-2 (plan-magnitude-calls t) (plan-magnitude-at t) plan-magnitude.Post
-plan-magnitude-sub-plan-magnitude-2 t c = omega (arith, plans.plan-some (c .before .before .before .pre .1 .0))
+plan-magnitude-sub-plan-magnitude-2 t c =
+    let h = c .before .before .before .pre .1 .0 in
+    omega (arith, plans.plan-some h)
 
 plan-magnitude-plan-magnitude-requires-2 : (t : ℕ) → plan-magnitude-lts.Need-plan-magnitude-requires-2 (plan-magnitude-calls t) (plan-magnitude-at t) plan-magnitude.Post
-plan-magnitude-plan-magnitude-requires-2 t c κs = (omega (arith, plans.plan-some (c .before .before .before .pre .1 .0)), (plans.later-ready (c .before .before .before .pre .1 .0) (c .before .before .plan-kind .ensures) (c .enum-told4 .given .1) .1, c .before .before .before .pre .1 .1))
+plan-magnitude-plan-magnitude-requires-2 t c κs =
+    let h = c .before .before .before .pre .1 .0 in
+    let m = c .before .before .before .pre .1 .1 in
+    let k = c .before .before .plan-kind .ensures in
+    let q = c .enum-told4 .given .1 in
+    (omega (arith, plans.plan-some h), (plans.later-ready h k q .1, m))
 
 plan-magnitude-add-plan-magnitude-2 : (t : ℕ) → plan-magnitude-lts.Need-add-plan-magnitude-2 (plan-magnitude-calls t) (plan-magnitude-at t) plan-magnitude.Post
-plan-magnitude-add-plan-magnitude-2 t c = omega (arith, plans.plan-room (c .before .before .before .pre .1 .0))
+plan-magnitude-add-plan-magnitude-2 t c =
+    let h = c .before .before .before .pre .1 .0 in
+    omega (arith, plans.plan-room h)
 
 plan-magnitude-sub-plan-magnitude-3 : (t : ℕ) → plan-magnitude-lts.Need-sub-plan-magnitude-3 (plan-magnitude-calls t) (plan-magnitude-at t) plan-magnitude.Post
-plan-magnitude-sub-plan-magnitude-3 t c = omega (arith, plans.plan-some (c .before .before .before .pre .1 .0))
+plan-magnitude-sub-plan-magnitude-3 t c =
+    let h = c .before .before .before .pre .1 .0 in
+    omega (arith, plans.plan-some h)
 
 plan-magnitude-plan-magnitude-requires-3 : (t : ℕ) → plan-magnitude-lts.Need-plan-magnitude-requires-3 (plan-magnitude-calls t) (plan-magnitude-at t) plan-magnitude.Post
-plan-magnitude-plan-magnitude-requires-3 t c κs = (omega (arith, plans.plan-some (c .before .before .before .pre .1 .0)), (plans.both-ready (c .before .before .before .pre .1 .0) (c .before .before .plan-kind .ensures) (c .enum-told5 .given .1) .0, c .before .before .before .pre .1 .1))
+plan-magnitude-plan-magnitude-requires-3 t c κs =
+    let h = c .before .before .before .pre .1 .0 in
+    let m = c .before .before .before .pre .1 .1 in
+    let k = c .before .before .plan-kind .ensures in
+    let q = c .enum-told5 .given .1 in
+    (omega (arith, plans.plan-some h), (plans.both-ready h k q .0, m))
 
 plan-magnitude-link-requires-2 : (t : ℕ) → plan-magnitude-lts.Need-link-requires-2 (plan-magnitude-calls t) (plan-magnitude-at t) plan-magnitude.Post
-plan-magnitude-link-requires-2 t c κs = (plans.plan-room (c .before .before .before .before .pre .1 .0), omega arith, plans.both-ready (c .before .before .before .before .pre .1 .0) (c .before .before .before .plan-kind .ensures) (c .before .enum-told5 .given .1) .1)
+plan-magnitude-link-requires-2 t c κs =
+    let h = c .before .before .before .before .pre .1 .0 in
+    let k = c .before .before .before .plan-kind .ensures in
+    let q = c .before .enum-told5 .given .1 in
+    (plans.plan-room h, omega arith, plans.both-ready h k q .1)
 
 plan-magnitude-sub-plan-magnitude-4 : (t : ℕ) → plan-magnitude-lts.Need-sub-plan-magnitude-4 (plan-magnitude-calls t) (plan-magnitude-at t) plan-magnitude.Post
-plan-magnitude-sub-plan-magnitude-4 t c = omega (arith, plans.plan-some (c .before .before .before .before .before .pre .1 .0))
+plan-magnitude-sub-plan-magnitude-4 t c =
+    let h = c .before .before .before .before .before .pre .1 .0 in
+    omega (arith, plans.plan-some h)
 
 plan-magnitude-plan-magnitude-requires-4 : (t : ℕ) → plan-magnitude-lts.Need-plan-magnitude-requires-4 (plan-magnitude-calls t) (plan-magnitude-at t) plan-magnitude.Post
-plan-magnitude-plan-magnitude-requires-4 t c κs = (omega (arith, plans.plan-some (c .before .before .before .before .before .pre .1 .0)), rw (c .link2 .ensures) (plans.both-ready (c .before .before .before .before .before .pre .1 .0) (c .before .before .before .before .plan-kind .ensures) (c .before .before .enum-told5 .given .1) .2, c .before .before .before .before .before .pre .1 .1))
+plan-magnitude-plan-magnitude-requires-4 t c κs =
+    let h = c .before .before .before .before .before .pre .1 .0 in
+    let m = c .before .before .before .before .before .pre .1 .1 in
+    let k = c .before .before .before .before .plan-kind .ensures in
+    let q = c .before .before .enum-told5 .given .1 in
+    (omega (arith, plans.plan-some h), rw (c .link2 .ensures) (plans.both-ready h k q .2, m))
 
 plan-magnitude-sum-of-requires : (t : ℕ) → plan-magnitude-lts.Need-sum-of-requires (plan-magnitude-calls t) (plan-magnitude-at t) plan-magnitude.Post
 plan-magnitude-sum-of-requires t c κs = (laws.plan-kept _ _ (c .before .before .plan-magnitude3 .ensures), laws.plan-kept _ _ (c .plan-magnitude4 .ensures))
 
 plan-magnitude-add-test-small : (t : ℕ) → plan-magnitude-lts.Need-add-test-small (plan-magnitude-calls t) (plan-magnitude-at t) plan-magnitude.Post
-plan-magnitude-add-test-small t c = omega (arith, plans.plan-room (c .before .before .before .pre .1 .0))
+plan-magnitude-add-test-small t c =
+    let h = c .before .before .before .pre .1 .0 in
+    omega (arith, plans.plan-room h)
 
 plan-magnitude-test-small-requires : (t : ℕ) → plan-magnitude-lts.Need-test-small-requires (plan-magnitude-calls t) (plan-magnitude-at t) plan-magnitude.Post
-plan-magnitude-test-small-requires t c κs = (plans.within-ready (c .before .before .before .pre .1 .0) (c .before .before .plan-kind .ensures) (c .enum-told6 .given .1) .1, c .before .before .before .pre .1 .1)
+plan-magnitude-test-small-requires t c κs =
+    let h = c .before .before .before .pre .1 .0 in
+    let m = c .before .before .before .pre .1 .1 in
+    let k = c .before .before .plan-kind .ensures in
+    let q = c .enum-told6 .given .1 in
+    (plans.within-ready h k q .1, m)
 
 plan-magnitude-link-requires-3 : (t : ℕ) → plan-magnitude-lts.Need-link-requires-3 (plan-magnitude-calls t) (plan-magnitude-at t) plan-magnitude.Post
-plan-magnitude-link-requires-3 t c κs = (plans.plan-room (c .before .before .before .before .pre .1 .0), omega arith, plans.within-ready (c .before .before .before .before .pre .1 .0) (c .before .before .before .plan-kind .ensures) (c .before .enum-told6 .given .1) .2 .0)
+plan-magnitude-link-requires-3 t c κs =
+    let h = c .before .before .before .before .pre .1 .0 in
+    let k = c .before .before .before .plan-kind .ensures in
+    let q = c .before .enum-told6 .given .1 in
+    (plans.plan-room h, omega arith, plans.within-ready h k q .2 .0)
 
 plan-magnitude-sub-plan-magnitude-5 : (t : ℕ) → plan-magnitude-lts.Need-sub-plan-magnitude-5 (plan-magnitude-calls t) (plan-magnitude-at t) plan-magnitude.Post
-plan-magnitude-sub-plan-magnitude-5 t c = omega (arith, plans.plan-some (c .before .before .before .before .before .pre .1 .0))
+plan-magnitude-sub-plan-magnitude-5 t c =
+    let h = c .before .before .before .before .before .pre .1 .0 in
+    omega (arith, plans.plan-some h)
 
 plan-magnitude-plan-magnitude-requires-5 : (t : ℕ) → plan-magnitude-lts.Need-plan-magnitude-requires-5 (plan-magnitude-calls t) (plan-magnitude-at t) plan-magnitude.Post
-plan-magnitude-plan-magnitude-requires-5 t c κs = (omega (arith, plans.plan-some (c .before .before .before .before .before .pre .1 .0)), rw (c .link3 .ensures) (plans.within-ready (c .before .before .before .before .before .pre .1 .0) (c .before .before .before .before .plan-kind .ensures) (c .before .before .enum-told6 .given .1) .2 .1, c .before .before .before .before .before .pre .1 .1))
+plan-magnitude-plan-magnitude-requires-5 t c κs =
+    let h = c .before .before .before .before .before .pre .1 .0 in
+    let m = c .before .before .before .before .before .pre .1 .1 in
+    let k = c .before .before .before .before .plan-kind .ensures in
+    let q = c .before .before .enum-told6 .given .1 in
+    (omega (arith, plans.plan-some h), rw (c .link3 .ensures) (plans.within-ready h k q .2 .1, m))
 
 plan-magnitude-link-requires-4 : (t : ℕ) → plan-magnitude-lts.Need-link-requires-4 (plan-magnitude-calls t) (plan-magnitude-at t) plan-magnitude.Post
-plan-magnitude-link-requires-4 t c κs = (plans.plan-room (c .before .before .before .before .before .before .pre .1 .0), omega arith, plans.within-ready (c .before .before .before .before .before .before .pre .1 .0) (c .before .before .before .before .before .plan-kind .ensures) (c .before .before .before .enum-told6 .given .1) .3 .0)
+plan-magnitude-link-requires-4 t c κs =
+    let h = c .before .before .before .before .before .before .pre .1 .0 in
+    let k = c .before .before .before .before .before .plan-kind .ensures in
+    let q = c .before .before .before .enum-told6 .given .1 in
+    (plans.plan-room h, omega arith, plans.within-ready h k q .3 .0)
 
 plan-magnitude-sub-plan-magnitude-6 : (t : ℕ) → plan-magnitude-lts.Need-sub-plan-magnitude-6 (plan-magnitude-calls t) (plan-magnitude-at t) plan-magnitude.Post
-plan-magnitude-sub-plan-magnitude-6 t c = omega (arith, plans.plan-some (c .before .before .before .before .before .before .before .pre .1 .0))
+plan-magnitude-sub-plan-magnitude-6 t c =
+    let h = c .before .before .before .before .before .before .before .pre .1 .0 in
+    omega (arith, plans.plan-some h)
 
 plan-magnitude-plan-magnitude-requires-6 : (t : ℕ) → plan-magnitude-lts.Need-plan-magnitude-requires-6 (plan-magnitude-calls t) (plan-magnitude-at t) plan-magnitude.Post
-plan-magnitude-plan-magnitude-requires-6 t c κs = (omega (arith, plans.plan-some (c .before .before .before .before .before .before .before .pre .1 .0)), rw (c .link4 .ensures) (plans.within-ready (c .before .before .before .before .before .before .before .pre .1 .0) (c .before .before .before .before .before .before .plan-kind .ensures) (c .before .before .before .before .enum-told6 .given .1) .3 .1, c .before .before .before .before .before .before .before .pre .1 .1))
+plan-magnitude-plan-magnitude-requires-6 t c κs =
+    let h = c .before .before .before .before .before .before .before .pre .1 .0 in
+    let m = c .before .before .before .before .before .before .before .pre .1 .1 in
+    let k = c .before .before .before .before .before .before .plan-kind .ensures in
+    let q = c .before .before .before .before .enum-told6 .given .1 in
+    (omega (arith, plans.plan-some h), rw (c .link4 .ensures) (plans.within-ready h k q .3 .1, m))
 
 plan-magnitude-greater-of-requires : (t : ℕ) → plan-magnitude-lts.Need-greater-of-requires (plan-magnitude-calls t) (plan-magnitude-at t) plan-magnitude.Post
 plan-magnitude-greater-of-requires t c κs = (laws.plan-kept _ _ (c .before .before .before .plan-magnitude5 .ensures), laws.plan-kept _ _ (c .before .plan-magnitude6 .ensures))
 
 plan-magnitude-returns : (t : ℕ) → plan-magnitude-lts.Need-returns (plan-magnitude-calls t) (plan-magnitude-at t) plan-magnitude.Post
-plan-magnitude-returns t c = laws.within-magnitude (c .before .before .before .before .before .before .before .before .before .before .args .bounds .now) (c .before .before .before .before .before .before .before .before .before .before .pre .1 .0) (c .before .before .before .before .before .before .before .before .before .plan-kind .ensures) (c .before .before .before .before .before .before .before .enum-told6 .given .1) (c .before .before .before .before .before .before .test-small .ensures) (c .before .if1 .taken) (c .before .before .before .before .before .link3 .ensures) (c .before .before .before .link4 .ensures) (c .before .before .before .before .plan-magnitude5 .ensures) (c .before .before .plan-magnitude6 .ensures) (c .greater-of .ensures)
+plan-magnitude-returns t c =
+    let h = c .before .before .before .before .before .before .before .before .before .before .pre .1 .0 in
+    let b = c .before .before .before .before .before .before .before .before .before .before .args .bounds .now in
+    let k = c .before .before .before .before .before .before .before .before .before .plan-kind .ensures in
+    let q = c .before .before .before .before .before .before .before .enum-told6 .given .1 in
+    let t = c .before .before .before .before .before .before .test-small .ensures in
+    let x = c .before .before .before .before .plan-magnitude5 .ensures in
+    let y = c .before .before .plan-magnitude6 .ensures in
+    laws.within-magnitude b h k q t (c .before .if1 .taken) (c .before .before .before .before .before .link3 .ensures) (c .before .before .before .link4 .ensures) x y (c .greater-of .ensures)
 
 plan-magnitude-returns-2 : (t : ℕ) → plan-magnitude-lts.Need-returns-2 (plan-magnitude-calls t) (plan-magnitude-at t) plan-magnitude.Post
-plan-magnitude-returns-2 t c = laws.nothing-magnitude (c .before .before .before .args .bounds .now) (c .before .before .before .pre .1 .0) (c .before .before .plan-kind .ensures) (c .enum-told .given .1)
+plan-magnitude-returns-2 t c =
+    let h = c .before .before .before .pre .1 .0 in
+    let b = c .before .before .before .args .bounds .now in
+    let k = c .before .before .plan-kind .ensures in
+    let q = c .enum-told .given .1 in
+    laws.nothing-magnitude b h k q
 
 plan-magnitude-returns-3 : (t : ℕ) → plan-magnitude-lts.Need-returns-3 (plan-magnitude-calls t) (plan-magnitude-at t) plan-magnitude.Post
-plan-magnitude-returns-3 t c = laws.transfer-magnitude (c .before .before .before .args .bounds .now) (c .before .before .before .pre .1 .0) (c .before .before .plan-kind .ensures) (c .enum-told2 .given .1)
+plan-magnitude-returns-3 t c =
+    let h = c .before .before .before .pre .1 .0 in
+    let b = c .before .before .before .args .bounds .now in
+    let k = c .before .before .plan-kind .ensures in
+    let q = c .enum-told2 .given .1 in
+    laws.transfer-magnitude b h k q
 
 plan-magnitude-returns-4 : (t : ℕ) → plan-magnitude-lts.Need-returns-4 (plan-magnitude-calls t) (plan-magnitude-at t) plan-magnitude.Post
-plan-magnitude-returns-4 t c = laws.scale-magnitude (c .before .before .before .before .before .before .before .args .bounds .now) (c .before .before .before .before .before .before .before .pre .1 .0) (c .before .before .before .before .before .before .plan-kind .ensures) (c .before .before .before .before .enum-told3 .given .1) (c .before .before .link .ensures) (c .before .before .before .amount-magnitude .ensures) (c .before .plan-magnitude .ensures) (c .product-of .ensures)
+plan-magnitude-returns-4 t c =
+    let h = c .before .before .before .before .before .before .before .pre .1 .0 in
+    let b = c .before .before .before .before .before .before .before .args .bounds .now in
+    let k = c .before .before .before .before .before .before .plan-kind .ensures in
+    let q = c .before .before .before .before .enum-told3 .given .1 in
+    laws.scale-magnitude b h k q (c .before .before .link .ensures) (c .before .before .before .amount-magnitude .ensures) (c .before .plan-magnitude .ensures) (c .product-of .ensures)
 
 plan-magnitude-returns-5 : (t : ℕ) → plan-magnitude-lts.Need-returns-5 (plan-magnitude-calls t) (plan-magnitude-at t) plan-magnitude.Post
-plan-magnitude-returns-5 t c = laws.later-magnitude (c .before .before .before .before .args .bounds .now) (c .before .before .before .before .pre .1 .0) (c .before .before .before .plan-kind .ensures) (c .before .enum-told4 .given .1) (c .plan-magnitude2 .ensures)
+plan-magnitude-returns-5 t c =
+    let h = c .before .before .before .before .pre .1 .0 in
+    let b = c .before .before .before .before .args .bounds .now in
+    let k = c .before .before .before .plan-kind .ensures in
+    let q = c .before .enum-told4 .given .1 in
+    laws.later-magnitude b h k q (c .plan-magnitude2 .ensures)
 
 plan-magnitude-returns-6 : (t : ℕ) → plan-magnitude-lts.Need-returns-6 (plan-magnitude-calls t) (plan-magnitude-at t) plan-magnitude.Post
-plan-magnitude-returns-6 t c = laws.both-magnitude (c .before .before .before .before .before .before .before .args .bounds .now) (c .before .before .before .before .before .before .before .pre .1 .0) (c .before .before .before .before .before .before .plan-kind .ensures) (c .before .before .before .before .enum-told5 .given .1) (c .before .before .link2 .ensures) (c .before .before .before .plan-magnitude3 .ensures) (c .before .plan-magnitude4 .ensures) (c .sum-of .ensures)
+plan-magnitude-returns-6 t c =
+    let h = c .before .before .before .before .before .before .before .pre .1 .0 in
+    let b = c .before .before .before .before .before .before .before .args .bounds .now in
+    let k = c .before .before .before .before .before .before .plan-kind .ensures in
+    let q = c .before .before .before .before .enum-told5 .given .1 in
+    laws.both-magnitude b h k q (c .before .before .link2 .ensures) (c .before .before .before .plan-magnitude3 .ensures) (c .before .plan-magnitude4 .ensures) (c .sum-of .ensures)
 
 plan-magnitude-returns-7 : (t : ℕ) → plan-magnitude-lts.Need-returns-7 (plan-magnitude-calls t) (plan-magnitude-at t) plan-magnitude.Post
-plan-magnitude-returns-7 t c = laws.within-beyond (c .before .before .before .before .before .before .before .before .before .args .bounds .now) (c .before .before .before .before .before .before .before .before .before .pre .1 .0) (c .before .before .before .before .before .before .before .before .plan-kind .ensures) (c .before .before .before .before .before .before .enum-told6 .given .1) (c .before .before .before .before .before .test-small .ensures) (c .if1 .left)
+plan-magnitude-returns-7 t c =
+    let h = c .before .before .before .before .before .before .before .before .before .pre .1 .0 in
+    let b = c .before .before .before .before .before .before .before .before .before .args .bounds .now in
+    let k = c .before .before .before .before .before .before .before .before .plan-kind .ensures in
+    let q = c .before .before .before .before .before .before .enum-told6 .given .1 in
+    laws.within-beyond b h k q (c .before .before .before .before .before .test-small .ensures) (c .if1 .left)
 
 plan-magnitude-returns-8 : (t : ℕ) → plan-magnitude-lts.Need-returns-8 (plan-magnitude-calls t) (plan-magnitude-at t) plan-magnitude.Post
-plan-magnitude-returns-8 t c = laws.no-plan-magnitude (c .before .before .before .args .bounds .now) (c .before .before .before .pre .1 .0) (c .before .before .plan-kind .ensures) (c .enum-told7 .given .1)
+plan-magnitude-returns-8 t c =
+    let h = c .before .before .before .pre .1 .0 in
+    let b = c .before .before .before .args .bounds .now in
+    let k = c .before .before .plan-kind .ensures in
+    let q = c .enum-told7 .given .1 in
+    laws.no-plan-magnitude b h k q
 
 plan-magnitude-part : {M : Type 1} (t : ℕ) → plan-magnitude-lts.Closed (plan-magnitude-calls t) (plan-magnitude-at t) plan-magnitude.Post M
 plan-magnitude-part t =

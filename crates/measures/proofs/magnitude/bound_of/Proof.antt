@@ -1,31 +1,23 @@
-use mathlib.Core.Path.{_≡_, refl, sym, ap, ap₂, _∙_}
-use mir.Syntax.{w64}
-use mir.Val.{SFits}
-use lib.IntN.{pos}
-use lib.ListN.{getD}
 use Rattle.measures.proofs.AmountMagnitudes as laws
--- uses end
-use borrow.Author.Needs.{needs}
 use Rattle.measures.proofs.magnitude.bound_of.Statement.{statement}
 use Rattle.measures.proofs.magnitude.bound_of.Tie as tie
-use Rattle.measures.proofs.magnitude.bound_of.Reads as reads
-use Rattle.measures.proofs.magnitude.bound_of.Lts as lts
+use borrow.Author.Needs.{needs}
+use lib.IntN.{pos}
+use lib.ListN.{getD}
+use mir.Syntax.{w64}
+use mir.Val.{SFits}
 
--- src/magnitude.rt:44:22
 mul-t5 : tie.Need-mul-t5
 mul-t5 c = search needs
 
--- src/magnitude.rt:44:22
 shared-slice-copy-out-t7 : tie.Need-shared-slice-copy-out-t7
 shared-slice-copy-out-t7 c = search needs
 
--- src/magnitude.rt:44:9
 returns : tie.Need-returns
 returns c =
     let f : SFits w64 (getD (c .before .before .args .bounds .now) (c .before .before .args .l) (pos 0)) = search needs in
     laws.bound-reads (c .before .before .args .bounds .now) (c .before .before .args .l) (c .before .before .pre) f
 
--- src/magnitude.rt:39:1
 returns-2 : tie.Need-returns-2
 returns-2 c = laws.bound-absent (c .before .args .bounds .now) (c .before .args .l) (c .if1 .left)
 

@@ -1,32 +1,23 @@
-use mathlib.Core.Path.{_≡_, refl, sym, ap, ap₂, _∙_}
-use mir.Syntax.{w64}
-use mir.Val.{SFits}
 use Rattle.measures.proofs.Fields as fields
--- uses end
-use borrow.Author.Needs.{needs}
 use Rattle.measures.proofs.magnitude.distance.Statement.{statement}
 use Rattle.measures.proofs.magnitude.distance.Tie as tie
-use Rattle.measures.proofs.magnitude.distance.Reads as reads
-use Rattle.measures.proofs.magnitude.distance.Lts as lts
-use Rattle.nodes.proofs.slot.Reads as slot-reads
+use borrow.Author.Needs.{needs}
+use mir.Syntax.{w64}
+use mir.Val.{SFits}
 
--- src/magnitude.rt:31:9
 slot-requires : tie.Need-slot-requires
 slot-requires c κs = search needs
 
--- src/magnitude.rt:33:22
 sub-t5 : tie.Need-sub-t5
 sub-t5 c =
     let f : SFits w64 (c .before .slot .result) = search needs in
     fields.back-fits (rw (c .before .slot .ensures) (c .before .before .pre .1)) f
 
--- src/magnitude.rt:33:9
 returns : tie.Need-returns
 returns c =
     let f : SFits w64 (c .before .slot .result) = search needs in
     fields.field-distance-below f (c .before .slot .ensures) (rw (c .before .slot .ensures) (c .before .before .pre .1)) (c .if1 .taken)
 
--- src/magnitude.rt:27:1
 returns-2 : tie.Need-returns-2
 returns-2 c =
     let f : SFits w64 (c .before .slot .result) = search needs in

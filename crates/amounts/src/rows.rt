@@ -1,0 +1,37 @@
+// What one row gives: its number, the value that it reads, and its division of another amount.
+ghost use mathlib.Core.Path.{_≡_};
+ghost use Prim.Native.Nat.{_<_};
+ghost use lib.IntN.{ℤ, pos, natAbs, _+ℤ_};
+ghost use lib.ListN.{getD};
+ghost use Rattle.integers.specs.Rounding.{floorZ};
+ghost use Rattle.nodes.specs.Table.{natOf, slotAt};
+ghost use Rattle.amounts.specs.Fine.{Divides, MonthIn, Reading};
+use integers::Month;
+use integers::Pence;
+
+// The number of an `N`.
+pub fn number(nodes: &[i64; 2560], at: usize) -> Pence
+    requires { ⌜ at < 512 ⌝ }
+    ensures { λ r. ⌜ r .0 ≡ slotAt (now (nodes .entry)) at 1 ⌝ }
+{
+    Pence(nodes::slot(nodes, at, 1))
+}
+
+// The value of an `O`: its row has the place for month 0.
+pub fn reading(nodes: &[i64; 2560], values: &[i64], month: Month, at: usize) -> Pence
+    requires { ⌜ (at < 512) × MonthIn (month .0) × Reading (now values) (natOf (month .0)) (slotAt (now nodes) at 2) ⌝ }
+    ensures { λ r. ⌜ r .0 ≡ getD (now (values .entry)) (natAbs (pos (natOf (month .0)) +ℤ slotAt (now (nodes .entry)) at 2)) (pos 0) ⌝ }
+{
+    let place = nodes::slot(nodes, at, 2);
+    let i = (month.0 + place) as usize;
+    Pence(values[i])
+}
+
+// An amount divided by the number of a `Q`.
+pub fn over(nodes: &[i64; 2560], at: usize, x: Pence) -> Pence
+    requires { ⌜ (at < 512) × Divides (natOf (slotAt (now nodes) at 1)) ⌝ }
+    ensures { λ r. ⌜ r .0 ≡ floorZ (x .0) (natOf (slotAt (now (nodes .entry)) at 1)) ⌝ }
+{
+    let n = nodes::slot(nodes, at, 1);
+    integers::quotient(x, n)
+}

@@ -1,0 +1,88 @@
+-- A filled plan that lies in the table is the plan found there, and can be walked.
+use Prim.Native.Nat.{_+_, _≤_, suc, zero, ℕ}
+use Rattle.language.proofs.Payoff.Filled.{fill-closed}
+use Rattle.language.specs.Limits.{maxDepth, maxNodes}
+use Rattle.language.specs.Rules.Settings.{closed, delayOf, fill, mapPlan}
+use Rattle.language.specs.Text.Form.{delayInForm, depthOf, fieldsOf, filledInForm}
+use Rattle.language.specs.Text.Letters as form
+use Rattle.language.specs.Text.Letters.{planForm}
+use Rattle.language.specs.Text.Plans.{planTrees}
+use Rattle.language.specs.Text.Reader.{Trees}
+use Rattle.language.specs.Text.Trees.{Amount, Delay, Plan, Test, both, later, months, nothing, scale, transfer, within}
+use Rattle.measures.proofs.BlocksLaid.{plan-blocks}
+use Rattle.measures.specs.Ready.{PlanReady}
+use Rattle.nodes.proofs.AmountsFound.{Finds}
+use Rattle.nodes.proofs.Laid.{Laid}
+use Rattle.nodes.proofs.PlansFound.{plan-found}
+use Rattle.nodes.specs.Found.{amountAt, offsetOf, planAt, planBy, testAt}
+use Rattle.nodes.specs.Letters.{planLetter}
+use Rattle.nodes.specs.Rows.{delayFrom}
+use Rattle.nodes.specs.Table.{linkAt, natOf, slotAt}
+use Rattle.nodes.specs.declared.PlanLetter.the-variants.{Both, Later, NoPlan, Nothing, Scale, Transfer, Within}
+use Rattle.nodes.specs.declared.PlanLetter.{PlanLetter}
+use lib.IntN.{negsuc, pos, ℤ}
+use mathlib.Core.List.{List}
+use mathlib.Core.Path.{_∙_, _≡_, ap, refl, sym}
+use native.Mathlib.Omega.{arith}
+
+-- ---- a plan whose delays are months
+
+depth-closed : (x : Plan ℕ) → depthOf (closed x) ≡ depthOf x
+unfolding depthOf mapPlan
+depth-closed nothing = refl
+depth-closed (transfer p q) = refl
+depth-closed (scale a x) = rw (depth-closed x) refl
+depth-closed (later d x) = rw (depth-closed x) refl
+depth-closed (both x y) = rw (depth-closed x, depth-closed y) refl
+depth-closed (within d t x y) = rw (depth-closed x, depth-closed y) refl
+
+fields-closed : (x : Plan ℕ) → fieldsOf filledInForm x → fieldsOf delayInForm (closed x)
+unfolding fieldsOf mapPlan
+fields-closed nothing f = f
+fields-closed (transfer p q) f = f
+fields-closed (scale a x) f = (f .0, fields-closed x (f .1))
+fields-closed (later d x) f = (f .0, fields-closed x (f .1))
+fields-closed (both x y) f = (fields-closed x (f .0), fields-closed y (f .1))
+fields-closed (within d t x y) f = (f .0, f .1, fields-closed x (f .2), fields-closed y (f .3))
+
+-- ---- found with its delays as numbers
+
+abbrev none : ℕ → ℕ
+none k = 0
+
+months-from : (z : ℤ) → delayOf none (delayFrom z) ≡ natOf z
+unfolding delayOf
+months-from (pos n) = refl
+months-from (negsuc n) = refl
+
+filled-by : (l : PlanLetter) (d : Delay) (p q : ℤ) (a : Amount ℤ) (t : Test ℤ) (x y z : Plan Delay)
+    → fill none (planBy l d p q a t x y z) ≡ planBy l (delayOf none d) p q a t (fill none x) (fill none y) (fill none z)
+unfolding mapPlan
+filled-by Nothing d p q a t x y z = refl
+filled-by Transfer d p q a t x y z = refl
+filled-by Scale d p q a t x y z = refl
+filled-by Later d p q a t x y z = refl
+filled-by Both d p q a t x y z = refl
+filled-by Within d p q a t x y z = refl
+filled-by NoPlan d p q a t x y z = refl
+
+module _ (nodes : List ℤ) where
+  found-months : (left at : ℕ) → fill none (planAt delayFrom left nodes at) ≡ planAt natOf left nodes at
+  unfolding planAt
+  found-months zero at = nothing-filled
+    where
+      nothing-filled : fill none nothing ≡ nothing
+      nothing-filled = filled-by Nothing (months 0) (pos 0) (pos 0) (amountAt offsetOf 0 nodes 0) (testAt offsetOf 0 nodes 0) nothing nothing nothing
+  found-months (suc left) at =
+      filled-by (planLetter (slotAt nodes at 0)) (delayFrom (slotAt nodes at 1)) (slotAt nodes at 1) (slotAt nodes at 2)
+      (amountAt offsetOf maxNodes nodes (at + 1)) (testAt offsetOf maxNodes nodes (at + 1))
+      (planAt delayFrom left nodes (at + 1)) (planAt delayFrom left nodes (linkAt nodes at 3)) (planAt delayFrom left nodes (linkAt nodes at 4))
+      ∙ rw (months-from (slotAt nodes at 1), found-months left (at + 1), found-months left (linkAt nodes at 3), found-months left (linkAt nodes at 4)) refl
+
+  pub filled-found : (x : Plan ℕ) (r : Trees form.PlanLetter) (at left : ℕ) → Laid planForm nodes at (planTrees (closed x) r) → fieldsOf filledInForm x → depthOf x ≤ left → left ≤ maxDepth
+      → Finds (planAt natOf left nodes at) x (PlanReady left nodes at)
+  filled-found x r at left h f d b =
+      let u : depthOf (closed x) ≤ left = omega (arith, depth-closed x) in
+      let p = plan-found nodes (closed x) r at left h (fields-closed x f) u (omega arith) in
+      let e : planAt natOf left nodes at ≡ x = sym (found-months left at) ∙ ap (fill none) (p .is) ∙ fill-closed none x in
+      record { is = e; safe = record { depth = b; stands = p .safe; fields = rw e f; blocks = plan-blocks nodes (closed x) r at left h u (omega arith) } }

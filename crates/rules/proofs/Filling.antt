@@ -1,0 +1,76 @@
+-- A plan that stands in the table: found there, and filled there.
+use Prim.Native.Nat.{_*_, _≤_, ℕ}
+use lib.IntN.{ℤ}
+use lib.ListN.{drop, take, take-append-drop}
+use lib.Seq.{take-at}
+use mathlib.Core.Bool.{true}
+use mathlib.Core.List.{List, _++_}
+use mathlib.Core.Path.{_∙_, _≡_, ap, sym}
+use native.Mathlib.Omega.{arith}
+use Rattle.language.proofs.Rules.Tables.{setting-small}
+use Rattle.language.proofs.Text.Form.{formed-map, nodes-map}
+use Rattle.language.specs.Limits.{maxMonths, maxNodes}
+use Rattle.language.specs.Rules.Settings.{allSet, closed, delayOf, fill}
+use Rattle.language.specs.Rules.Table.{settingAt, settingsOk}
+use Rattle.language.specs.Text.Form.{Formed, delayInForm, filledInForm}
+use Rattle.language.specs.Text.Letters.{planForm}
+use Rattle.language.specs.Text.Plans.{planTrees}
+use Rattle.language.specs.Text.Reader.{end}
+use Rattle.language.specs.Text.Trees.{Delay, Plan, months, setting}
+use Rattle.measures.proofs.FilledReady.{filled-found}
+use Rattle.measures.specs.Ready.{PlanReady}
+use Rattle.nodes.proofs.AmountsFound.{Finds}
+use Rattle.nodes.proofs.Counts.{count-plan, plan-rows}
+use Rattle.nodes.proofs.Laid.{Laid, rows-length}
+use Rattle.nodes.specs.Found.{planAt}
+use Rattle.nodes.specs.Pass.{allRows, mapRows}
+use Rattle.nodes.specs.Rows.{countOf, rows}
+use Rattle.nodes.specs.Table.{natOf}
+use Rattle.rules.specs.Standing.{Standing}
+use Rattle.tables.proofs.PlanFills.{rows-filled, rows-set}
+use Rattle.tables.specs.Fill.{fillRow, rowSet}
+
+module _ {nodes : List ℤ} {count : ℕ} {x : Plan Delay} (s : Standing nodes count x) where
+  -- the table is the plan's rows, and a rest
+  pub whole : nodes ≡ rows planForm (planTrees x end) ++ drop (5 * count) nodes
+  whole = sym (take-append-drop (5 * count) nodes) ∙ ap (λ y. y ++ drop (5 * count) nodes) (s .lies)
+
+  pub standing-rows : 5 * count ≤ 5 * maxNodes
+  standing-rows = omega (arith, s .counted, plan-rows x (s .formed))
+
+  pub laid : Laid planForm nodes 0 (planTrees x end)
+  laid = record { rest = drop (5 * count) nodes; is = whole; room = omega (arith, plan-rows x (s .formed)) }
+
+  module _ (days : List ℤ) where
+    pub set-is : allRows (rowSet days) count nodes ≡ allSet days x
+    set-is = ap (allRows (rowSet days) count) whole ∙ ap (λ n. allRows (rowSet days) n (rows planForm (planTrees x end) ++ drop (5 * count) nodes)) (s .counted) ∙ rows-set days x (drop (5 * count) nodes)
+
+    module _ (ok : settingsOk days ≡ true) where
+      delay-filled : (d : Delay) → delayInForm d → delayOf (settingAt days) d ≤ maxMonths
+      unfolding delayOf
+      delay-filled (months n) h = h
+      delay-filled (setting k) h = setting-small days ok k
+
+      pub fill-formed : Formed filledInForm (fill (settingAt days) x)
+      fill-formed = formed-map (delayOf (settingAt days)) delayInForm filledInForm delay-filled x (s .formed)
+
+      pub closed-formed : Formed delayInForm (closed (fill (settingAt days) x))
+      closed-formed = formed-map months filledInForm delayInForm (λ d h. h) (fill (settingAt days) x) fill-formed
+
+      pub stands-filled : {after : List ℤ} → after ≡ mapRows (fillRow days) count nodes → Standing after count (closed (fill (settingAt days) x))
+      stands-filled {after} e =
+          let y = closed (fill (settingAt days) x) in
+          let a : after ≡ rows planForm (planTrees y end) ++ drop (5 * count) nodes = e ∙ ap (mapRows (fillRow days) count) whole ∙ ap (λ n. mapRows (fillRow days) n (rows planForm (planTrees x end) ++ drop (5 * count) nodes)) (s .counted) ∙ rows-filled days x (drop (5 * count) nodes) in
+          record {
+            formed = closed-formed;
+            counted = count-same;
+            lies = ap (take (5 * count)) a ∙ take-at (rows planForm (planTrees y end)) (drop (5 * count) nodes) (5 * count) (rows-length planForm (planTrees y end) ∙ ap (λ n. 5 * n) (sym count-same));
+          }
+        where
+          count-same : count ≡ countOf (planTrees (closed (fill (settingAt days) x)) end)
+          count-same = s .counted ∙ count-plan x ∙ sym (count-plan (closed (fill (settingAt days) x)) ∙ nodes-map months (fill (settingAt days) x) ∙ nodes-map (delayOf (settingAt days)) x)
+
+-- a plan without open settings, as a walk finds it
+module _ {nodes : List ℤ} {count : ℕ} (y : Plan ℕ) (s : Standing nodes count (closed y)) (formed : Formed filledInForm y) where
+  pub walked : Finds (planAt natOf 32 nodes 0) y (PlanReady 32 nodes 0)
+  walked = filled-found nodes y end 0 32 (laid s) (formed .fields) (formed .depth) (omega arith)

@@ -1,0 +1,6 @@
+-- Laws of checking.
+pub mod Accepting
+pub mod Checks
+pub mod Filling
+pub mod Measuring
+pub mod SameReads

@@ -1,0 +1,122 @@
+-- The rules of a filled plan in their order, as the code goes through them.
+use Prim.Native.Nat.{_+_, _≤_, ℕ}
+use borrow.Author.Tests.{le-leb, lt-leb}
+use lib.Dec.{T, leb}
+use lib.IntN.{_+ℤ_, natAbs, negsuc, pos, ℤ}
+use lib.ListN.{length-replicate}
+use lib.Signed.{ltZ, nonNeg}
+use mathlib.Core.Bool.{Bool, false, true}
+use mathlib.Core.List.{List, []}
+use mathlib.Core.Path.{_∙_, _≡_, ap, refl, sym}
+use native.Mathlib.Omega.{arith}
+use Rattle.integers.proofs.Tests.{lt-false, lt-true}
+use Rattle.integers.specs.Bounded.{Small}
+use Rattle.integers.specs.declared.Month.{Month}
+use Rattle.integers.specs.declared.Pence.{Pence}
+use Rattle.language.specs.Answer.{Answer}
+use Rattle.language.specs.Calls.{Checked, meetsRules}
+use Rattle.language.specs.Rules.Measures.{lengthOf, magnitudeOf}
+use Rattle.language.specs.Rules.Table.{Table}
+use Rattle.language.specs.Rules.Tests.{knownInTime, planReads, planSmall}
+use Rattle.language.specs.Text.Trees.{Plan}
+use Rattle.measures.specs.Magnitudes.{boundIn, measured, measuredPlan}
+use Rattle.measures.specs.Spans as reads
+use Rattle.measures.specs.declared.limit.Measured.{Measured}
+use Rattle.measures.specs.declared.limit.Measured.the-variants.{Beyond, Within}
+use Rattle.measures.specs.declared.reads.Reach.{Reach}
+use Rattle.nodes.specs.Table.{natOf}
+use Rattle.rules.proofs.SameReads.{same-reads}
+use Rattle.rules.specs.Answers.{checkingAnswer}
+use Rattle.rules.specs.Measured.{InTable, measuredBy}
+use Rattle.rules.specs.declared.Checking.the-variants.{Accepted, Refused}
+use Rattle.tables.specs.Given.{tableOf}
+use Rattle.text.specs.declared.Refusal.the-variants.{Length, Magnitude, NotInTime, Reads}
+
+-- a month that is not below zero
+from-zero : (z : ℤ) → T (nonNeg z) → z ≡ pos (natOf z)
+from-zero (pos n) h = refl
+from-zero (negsuc n) h = absurd h
+
+pub few-months : (today : ℤ) (s : Reach) (bounds : List ℤ) → InTable today (s .h) (s .f) (s .labels) bounds → Small today
+few-months today s bounds h = record { small = omega (arith, h .todayTo) }
+
+natural : (z : ℤ) → natOf z ≤ natAbs z
+natural (pos n) = omega arith
+natural (negsuc n) = omega arith
+
+pub in-reach : (today : Month) (s : Reach) (bounds : List ℤ) → InTable (today .0) (s .h) (s .f) (s .labels) bounds → reads.InReach 32 today today s
+in-reach today s bounds h = record {
+  firstFrom = h .todayFrom;
+  lastFrom = h .todayFrom;
+  firstRoom = omega (arith, natural (today .0), h .todayTo);
+  lastRoom = omega (arith, natural (today .0), h .todayTo);
+  order = omega arith;
+  back = omega (arith, h .hTo);
+  ahead = h .fTo;
+}
+
+module _ (today : ℤ) (s : Reach) (bounds : List ℤ) (x : Plan ℕ) (h : InTable today (s .h) (s .f) (s .labels) bounds) where
+  abbrev table : Table
+  table = tableOf (s .h) (s .f) [] bounds []
+
+  abbrev answer : Answer Checked
+  answer = measuredBy (s .h) (s .f) bounds (natOf today) x
+
+  beyond-f : (l : ℤ) → l ≡ pos (lengthOf x) → ltZ (s .f) (today +ℤ l) ≡ true → leb (natOf today + lengthOf x) (natAbs (s .f)) ≡ false
+  beyond-f l e c = go (s .f) (h .fFrom) (rw (e, from-zero today (h .todayFrom)) at c)
+    where
+      go : (f : ℤ) → T (nonNeg f) → ltZ f (pos (natOf today) +ℤ pos (lengthOf x)) ≡ true → leb (natOf today + lengthOf x) (natAbs f) ≡ false
+      go (pos n) p q = lt-leb (natOf today + lengthOf x) n (omega (arith, lt-true (pos n) (pos (natOf today + lengthOf x)) q))
+      go (negsuc n) p q = absurd p
+
+  within-f : (l : ℤ) → l ≡ pos (lengthOf x) → ltZ (s .f) (today +ℤ l) ≡ false → leb (natOf today + lengthOf x) (natAbs (s .f)) ≡ true
+  within-f l e c = go (s .f) (h .fFrom) (rw (e, from-zero today (h .todayFrom)) at c)
+    where
+      go : (f : ℤ) → T (nonNeg f) → ltZ f (pos (natOf today) +ℤ pos (lengthOf x)) ≡ false → leb (natOf today + lengthOf x) (natAbs f) ≡ true
+      go (pos n) p q = le-leb (natOf today + lengthOf x) n (omega (arith, lt-false (pos n) (pos (natOf today + lengthOf x)) q))
+      go (negsuc n) p q = absurd p
+
+  reads-is : {b : Bool} → b ≡ planReads (reads.tableOf s) (natOf today) (natOf today) x → b ≡ planReads table (natOf today) (natOf today) x
+  reads-is e = e ∙ same-reads (reads.tableOf s) table refl refl (length-replicate (s .labels) (pos 0) ∙ h .labelled) (natOf today) (natOf today) x
+
+  pub too-long : (l : ℤ) → l ≡ pos (lengthOf x) → ltZ (s .f) (today +ℤ l) ≡ true → checkingAnswer (Refused Length) ≡ answer
+  unfolding checkingAnswer meetsRules
+  too-long l e c = rw (beyond-f l e c) refl
+
+  module _ (l : Month) (e : l .0 ≡ pos (lengthOf x)) (c : ltZ (s .f) (today +ℤ l .0) ≡ false) where
+    pub unread : {b : Bool} → b ≡ planReads (reads.tableOf s) (natOf today) (natOf today) x → b ≡ false → checkingAnswer (Refused Reads) ≡ answer
+    unfolding checkingAnswer meetsRules
+    unread r q = rw (within-f (l .0) e c, sym (reads-is r) ∙ q) refl
+
+    module _ {b : Bool} (r : b ≡ planReads (reads.tableOf s) (natOf today) (natOf today) x) (q : b ≡ true) where
+      pub late : {k : Bool} → k ≡ knownInTime x → k ≡ false → checkingAnswer (Refused NotInTime) ≡ answer
+      unfolding checkingAnswer meetsRules
+      late n o = rw (within-f (l .0) e c, sym (reads-is r) ∙ q, sym n ∙ o) refl
+
+      module _ {k : Bool} (n : k ≡ knownInTime x) (o : k ≡ true) where
+        by-magnitude : (v : Bool) → planSmall (boundIn bounds) x ≡ v → {m : Measured} → m ≡ measured v (magnitudeOf (boundIn bounds) x) → (p : Pence) → m ≡ Within p → (planSmall (boundIn bounds) x ≡ true) × (natAbs (p .0) ≡ magnitudeOf (boundIn bounds) x)
+        by-magnitude true w d p g = (w, ap (λ y. natAbs (y .0)) (same (sym g ∙ d)))
+          where
+            same : Within p ≡ Within (record { 0 = pos (magnitudeOf (boundIn bounds) x) }) → p ≡ record { 0 = pos (magnitudeOf (boundIn bounds) x) }
+            same i = cc
+        by-magnitude false w d p g = let z : _≡_ {A = ℕ} 0 1 = differ (sym g ∙ d) in absurd (omega arith)
+          where
+            differ : Within p ≡ Beyond → _≡_ {A = ℕ} 0 1
+            differ i = cc
+
+        not-small : (v : Bool) → planSmall (boundIn bounds) x ≡ v → {m : Measured} → m ≡ measured v (magnitudeOf (boundIn bounds) x) → m ≡ Beyond → planSmall (boundIn bounds) x ≡ false
+        not-small false w d g = w
+        not-small true w d g = let z : _≡_ {A = ℕ} 0 1 = differ (sym g ∙ d) in absurd (omega arith)
+          where
+            differ : Beyond ≡ Within (record { 0 = pos (magnitudeOf (boundIn bounds) x) }) → _≡_ {A = ℕ} 0 1
+            differ i = cc
+
+        pub accepted : {m : Measured} → m ≡ measuredPlan (boundIn bounds) x → (p : Pence) → m ≡ Within p → checkingAnswer (Accepted l p) ≡ answer
+        unfolding checkingAnswer meetsRules
+        accepted d p g =
+            let y = by-magnitude (planSmall (boundIn bounds) x) refl d p g in
+            rw (within-f (l .0) e c, sym (reads-is r) ∙ q, sym n ∙ o, y .0) (rw (e, y .1) refl)
+
+        pub too-great : {m : Measured} → m ≡ measuredPlan (boundIn bounds) x → m ≡ Beyond → checkingAnswer (Refused Magnitude) ≡ answer
+        unfolding checkingAnswer meetsRules
+        too-great d g = rw (within-f (l .0) e c, sym (reads-is r) ∙ q, sym n ∙ o, not-small (planSmall (boundIn bounds) x) refl d g) refl

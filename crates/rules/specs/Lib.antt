@@ -1,0 +1,5 @@
+-- What checking answers, and the plan that stands in the node table.
+pub mod Accepting
+pub mod Answers
+pub mod Measured
+pub mod Standing

@@ -1,0 +1,125 @@
+// The rules for a plan, in document 01's order.
+ghost use mathlib.Core.Path.{_≡_};
+ghost use Rattle.language.specs.Calls.{checkCall};
+ghost use Rattle.measures.specs.Ready.{PlanReady};
+ghost use Rattle.nodes.specs.Found.{planAt};
+ghost use Rattle.nodes.specs.Table.{natOf};
+ghost use Rattle.rules.specs.Accepting.{AcceptIs};
+ghost use Rattle.rules.specs.Answers.{checkingAnswer, givenOf};
+ghost use Rattle.rules.specs.Measured.{InTable, measuredBy};
+ghost use Rattle.rules.specs.Standing.{Stands};
+use integers::Month;
+use integers::Pence;
+use measures::limit::Measured;
+use measures::reads::Reach;
+use tables::Span;
+use tables::fill::Filling;
+use text::Reading;
+use text::Refusal;
+
+pub enum Checking {
+    Accepted(Month, Pence),
+    Refused(Refusal),
+}
+
+// Length 10, reads 11, known in time 7, magnitude 6.
+pub fn measure(nodes: &[i64; 2560], today: Month, reach: Reach, bounds: &[i64]) -> Checking
+    requires { ⌜ PlanReady 32 (now nodes) 0 × InTable (today .0) (reach .h) (reach .f) (reach .labels) (now bounds) ⌝ }
+    ensures { λ r. ⌜ checkingAnswer r ≡ measuredBy (reach .h) (reach .f) (now (bounds .entry)) (natOf (today .0)) (planAt natOf 32 (now (nodes .entry)) 0) ⌝ }
+{
+    let length = measures::length::plan_length(nodes, 0, 32);
+    let last = integers::later(today, length);
+    if reach.f < last.0 {
+        return Checking::Refused(Refusal::Length);
+    }
+    if measures::reads::plan_reads(nodes, 0, 32, today, today, reach) {
+        if measures::first::known_in_time(nodes, 0, 32) {
+            let m = measures::magnitude::plan_magnitude(nodes, 0, 32, bounds);
+            match m {
+                Measured::Within(p) => Checking::Accepted(length, p),
+                Measured::Beyond => Checking::Refused(Refusal::Magnitude),
+            }
+        } else {
+            Checking::Refused(Refusal::NotInTime)
+        }
+    } else {
+        Checking::Refused(Refusal::Reads)
+    }
+}
+
+// A plan that was read: 9, 12, 8, and the rules. Its open settings are filled in the table.
+pub fn accept(
+    nodes: &mut [i64; 2560],
+    count: usize,
+    days: &[i64],
+    span: Span,
+    factors: &[i64],
+    bounds: &[i64],
+    values: &[i64],
+    today: Month,
+    caller: bool,
+) -> Checking
+    requires { ⌜ Stands (now nodes) count ⌝ }
+    ensures { λ r. ⌜ AcceptIs
+        (givenOf (now (days .entry)) (span .h) (span .f) (now (factors .entry)) (now (bounds .entry)) (now (values .entry)))
+        (today .0) caller count (now (nodes .entry)) (now (nodes .exit)) r ⌝ }
+{
+    if tables::table_ok(span, factors, bounds, values) {
+        if tables::month_ok(span.f, today.0) & caller {
+            if tables::settings_ok(days) {
+                let filling = tables::fill::fill_rows(nodes, count, days);
+                match filling {
+                    Filling::Filled => measure(
+                        nodes,
+                        today,
+                        Reach {
+                            h: span.h,
+                            f: span.f,
+                            labels: bounds.len(),
+                        },
+                        bounds,
+                    ),
+                    Filling::Unset => Checking::Refused(Refusal::Settings),
+                }
+            } else {
+                Checking::Refused(Refusal::Settings)
+            }
+        } else {
+            Checking::Refused(Refusal::Caller)
+        }
+    } else {
+        Checking::Refused(Refusal::Table)
+    }
+}
+
+// Whether a plan is accepted with its root in month today: its length and magnitude, or the refusal.
+pub fn check(
+    text: &[u8],
+    days: &[i64],
+    h: i64,
+    f: i64,
+    factors: &[i64],
+    bounds: &[i64],
+    values: &[i64],
+    today: i64,
+) -> Checking
+    ensures { λ r. ⌜ checkingAnswer r ≡ checkCall (now (text .entry))
+        (givenOf (now (days .entry)) h f (now (factors .entry)) (now (bounds .entry)) (now (values .entry))) today ⌝ }
+{
+    let mut nodes = [0i64; 2560];
+    let reading = text::read_plan(text, &mut nodes);
+    match reading {
+        Reading::Nodes(count) => accept(
+            &mut nodes,
+            count,
+            days,
+            Span { h: h, f: f },
+            factors,
+            bounds,
+            values,
+            Month(today),
+            true,
+        ),
+        Reading::Refused(refusal) => Checking::Refused(refusal),
+    }
+}

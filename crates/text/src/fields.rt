@@ -1,0 +1,111 @@
+// Fields by class: a number within the class's range, or a delay.
+ghost use mathlib.Core.Path.{_≡_};
+ghost use Prim.Native.Nat.{_+_, _≤_, _<_};
+ghost use lib.ListN.{length, drop, getD};
+ghost use Rattle.text.specs.Positions.{upTo};
+ghost use Rattle.text.specs.Classes.{classOf, rangeOf, Limited, RangedIs};
+ghost use Rattle.text.specs.Fields.{TakenIs};
+use crate::numbers::Number;
+use crate::numbers::read_number;
+use crate::settings::read_setting;
+
+// The classes of fields. A letter with fewer than three fields has NONE for the others.
+pub const NONE: u8 = 0;
+
+pub const FIGURE: u8 = 1;
+
+pub const DELAY: u8 = 2;
+
+pub const PARTY: u8 = 3;
+
+pub const LABEL: u8 = 4;
+
+pub const FROM_NODE: u8 = 5;
+
+pub const DIVISOR: u8 = 6;
+
+pub const MONTH: u8 = 7;
+
+pub struct Range {
+    pub low: i64,
+    pub high: i64,
+}
+
+// A field that was read, as one number, and the byte where the next one starts.
+pub enum Taking {
+    Value { value: i64, next: usize },
+    Wrong,
+}
+
+fn range_of(class: u8) -> Range
+    ensures { λ r. ⌜ r ≡ rangeOf class ⌝ }
+{
+    match class {
+        FIGURE => Range {
+            low: -9000000000000,
+            high: 9000000000000,
+        },
+        DELAY => Range { low: 0, high: 600 },
+        LABEL => Range { low: 0, high: 7 },
+        FROM_NODE => Range {
+            low: -60,
+            high: 600,
+        },
+        DIVISOR => Range {
+            low: 1,
+            high: 9000000000000,
+        },
+        _ => Range { low: 1, high: 9 },
+    }
+}
+
+// A number within a range.
+pub fn read_ranged(text: &[u8], at: usize, stop: u8, range: Range) -> Number
+    requires { ⌜ (at ≤ length (now text)) × (stop < 45) × Limited range ⌝ }
+    ensures { λ r. ⌜ RangedIs range (upTo stop (drop at (now (text .entry)))) at r ⌝ }
+{
+    match read_number(text, at, stop) {
+        Number::Is { value, end } => {
+            if value < range.low {
+                return Number::Bad;
+            }
+            if range.high < value {
+                return Number::Bad;
+            }
+            Number::Is { value, end }
+        }
+        Number::Bad => Number::Bad,
+    }
+}
+
+fn read_plain(text: &[u8], at: usize, class: u8) -> Taking
+    requires { ⌜ (at ≤ length (now text)) × (class ≡ 2 → getD (upTo 44 (drop at (now text))) 0 0 ≡ 80 → ⊥) ⌝ }
+    ensures { λ r. ⌜ TakenIs (classOf class) (now (text .entry)) at r ⌝ }
+{
+    let range = range_of(class);
+    match read_ranged(text, at, b',', range) {
+        Number::Is { value, end } => Taking::Value {
+            value,
+            next: end + 1,
+        },
+        Number::Bad => Taking::Wrong,
+    }
+}
+
+// Any field but a month.
+pub fn read_field(text: &[u8], at: usize, class: u8) -> Taking
+    requires { ⌜ at ≤ length (now text) + 1 ⌝ }
+    ensures { λ r. ⌜ TakenIs (classOf class) (now (text .entry)) at r ⌝ }
+{
+    if text.len() < at {
+        return Taking::Wrong;
+    }
+    if class == DELAY {
+        if at < text.len() {
+            if text[at] == b'P' {
+                return read_setting(text, at);
+            }
+        }
+    }
+    read_plain(text, at, class)
+}

@@ -1,0 +1,95 @@
+// Reading a plan's or a payoff's text into the node table.
+ghost use mathlib.Core.Path.{_≡_};
+ghost use lib.ListN.{length};
+ghost use Rattle.language.specs.Text.Letters.{planForm, payoffForm};
+ghost use Rattle.language.specs.Text.Reader.{readText};
+ghost use Rattle.text.specs.Letters.{formOf};
+ghost use Rattle.text.specs.ReadInto.{CountIs, ReadInto};
+
+mod fields;
+mod letters;
+mod numbers;
+mod settings;
+mod slots;
+mod trees;
+
+use letters::ROOT;
+use letters::TextForm;
+use trees::Read;
+use trees::read_node;
+
+pub enum Refusal {
+    TooLong,
+    NotOfForm,
+    TooManyNodes,
+    TooDeep,
+    WrongKind,
+    Magnitude,
+    NotInTime,
+    Settings,
+    Table,
+    Length,
+    Reads,
+    Caller,
+    NoRoom,
+    OutOfRange,
+}
+
+// The number of nodes that were read, or the refusal.
+pub enum Reading {
+    Nodes(usize),
+    Refused(Refusal),
+}
+
+fn longest(form: TextForm) -> usize
+    ensures { λ r. ⌜ r ≡ formOf form .bytes ⌝ }
+{
+    match form {
+        TextForm::Plan => 8704,
+        TextForm::Payoff => 53760,
+    }
+}
+
+fn read_text(form: TextForm, text: &[u8], nodes: &mut [i64]) -> Reading
+    requires { ⌜ length (now nodes) ≡ 2560 ⌝ }
+    ensures is { λ r. ⌜ ReadInto (formOf form) (readText (formOf form) (now (text .entry))) (now (nodes .exit)) r ⌝ }
+    ensures kept { λ r. ⌜ length (now (nodes .exit)) ≡ 2560 ⌝ }
+{
+    if longest(form) < text.len() {
+        return Reading::Refused(Refusal::TooLong);
+    }
+    match read_node(form, text, 0, ROOT, nodes, 0, 32) {
+        Read::Done { next, count } => {
+            if next <= text.len() {
+                Reading::Refused(Refusal::NotOfForm)
+            } else {
+                Reading::Nodes(count)
+            }
+        }
+        Read::Stopped(n) => Reading::Refused(n),
+    }
+}
+
+pub fn read_plan(text: &[u8], nodes: &mut [i64]) -> Reading
+    requires { ⌜ length (now nodes) ≡ 2560 ⌝ }
+    ensures is { λ r. ⌜ ReadInto planForm (readText planForm (now (text .entry))) (now (nodes .exit)) r ⌝ }
+    ensures kept { λ r. ⌜ length (now (nodes .exit)) ≡ 2560 ⌝ }
+{
+    read_text(TextForm::Plan, text, nodes)
+}
+
+pub fn read_payoff(text: &[u8], nodes: &mut [i64]) -> Reading
+    requires { ⌜ length (now nodes) ≡ 2560 ⌝ }
+    ensures is { λ r. ⌜ ReadInto payoffForm (readText payoffForm (now (text .entry))) (now (nodes .exit)) r ⌝ }
+    ensures kept { λ r. ⌜ length (now (nodes .exit)) ≡ 2560 ⌝ }
+{
+    read_text(TextForm::Payoff, text, nodes)
+}
+
+// The number of a plan's nodes: a caller with a table of its own.
+pub fn plan_nodes(text: &[u8]) -> Reading
+    ensures { λ r. ⌜ CountIs (readText planForm (now (text .entry))) r ⌝ }
+{
+    let mut nodes = [0i64; 2560];
+    read_plan(text, &mut nodes)
+}

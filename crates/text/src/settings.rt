@@ -1,0 +1,103 @@
+// Settings: P0 to P7 as a delay, and those that are added to a payoff's month.
+ghost use mathlib.Core.Path.{_≡_};
+ghost use Prim.Native.Nat.{_-_, _^_, _≤_, _<_};
+ghost use lib.ListN.{length, drop, getD};
+ghost use Rattle.language.specs.Text.Letters.{delay};
+ghost use Rattle.text.specs.Fields.{TakenIs};
+ghost use Rattle.text.specs.Positions.{upTo};
+ghost use Rattle.text.specs.Settings.{SettingsAre};
+use crate::fields::Taking;
+
+// P0 to P7 as a whole field: the setting k is kept as -1 - k.
+pub fn read_setting(text: &[u8], at: usize) -> Taking
+    requires { ⌜ (at < length (now text)) × (getD (now text) at 0 ≡ 80) ⌝ }
+    ensures { λ r. ⌜ TakenIs delay (now (text .entry)) at r ⌝ }
+{
+    if text.len() - at < 2 {
+        return Taking::Wrong;
+    }
+    let c = text[at + 1];
+    if c < b'0' {
+        return Taking::Wrong;
+    }
+    if b'7' < c {
+        return Taking::Wrong;
+    }
+    if text.len() - at == 2 {
+        return Taking::Value {
+            value: 0 - (c - 47) as i64,
+            next: at + 3,
+        };
+    }
+    if text[at + 2] == b',' {
+        return Taking::Value {
+            value: 0 - (c - 47) as i64,
+            next: at + 3,
+        };
+    }
+    Taking::Wrong
+}
+
+// 32 to the setting's number.
+fn weight(c: u8) -> u64
+    requires { ⌜ (48 ≤ c) × (c ≤ 55) ⌝ }
+    ensures is { λ r. ⌜ r ≡ 32 ^ (c - 48) ⌝ }
+    ensures small { λ r. ⌜ r ≤ 34359738368 ⌝ }
+{
+    match c {
+        b'0' => 1,
+        b'1' => 32,
+        b'2' => 1024,
+        b'3' => 32768,
+        b'4' => 1048576,
+        b'5' => 33554432,
+        b'6' => 1073741824,
+        _ => 34359738368,
+    }
+}
+
+// A month's settings, lowest first: how often each is added, as digits in base 32.
+pub fn read_settings(text: &[u8], at: usize) -> Taking
+    requires { ⌜ at ≤ length (now text) ⌝ }
+    ensures { λ r. ⌜ SettingsAre (upTo 44 (drop at (now (text .entry)))) at r ⌝ }
+{
+    let mut acc: u64 = 0;
+    let mut n: usize = 0;
+    let mut low: u8 = b'0';
+    let mut i = at;
+    while i < text.len() {
+        if text[i] == b',' {
+            return Taking::Value {
+                value: acc as i64,
+                next: i + 1,
+            };
+        }
+        if text.len() - i < 3 {
+            return Taking::Wrong;
+        }
+        if text[i] != b'+' {
+            return Taking::Wrong;
+        }
+        if text[i + 1] != b'P' {
+            return Taking::Wrong;
+        }
+        let c = text[i + 2];
+        if c < low {
+            return Taking::Wrong;
+        }
+        if b'7' < c {
+            return Taking::Wrong;
+        }
+        if 31 <= n {
+            return Taking::Wrong;
+        }
+        acc += weight(c);
+        low = c;
+        n += 1;
+        i += 3;
+    }
+    Taking::Value {
+        value: acc as i64,
+        next: i + 1,
+    }
+}

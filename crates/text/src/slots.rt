@@ -1,0 +1,148 @@
+// The fields of a node as up to four numbers: a month takes two of them.
+ghost use mathlib.Core.List.{_∷_};
+ghost use Prim.Native.Nat.{_+_, _≤_};
+ghost use lib.ListN.{length};
+ghost use Rattle.language.specs.Text.Letters.{month};
+ghost use Rattle.text.specs.Classes.{classOf};
+ghost use Rattle.text.specs.Fields.{MonthIs, PairIs, SlotsAre, classesOfTwo, classesOfThree};
+use crate::fields::MONTH;
+use crate::fields::NONE;
+use crate::fields::Range;
+use crate::fields::Taking;
+use crate::fields::read_field;
+use crate::fields::read_ranged;
+use crate::numbers::Number;
+use crate::settings::read_settings;
+
+pub enum Taking2 {
+    Values { a: i64, b: i64, next: usize },
+    Wrongs,
+}
+
+// All fields of a node.
+pub enum Slots {
+    Filled {
+        a: i64,
+        b: i64,
+        c: i64,
+        d: i64,
+        next: usize,
+    },
+    Unfilled,
+}
+
+fn read_month(text: &[u8], at: usize) -> Taking2
+    requires { ⌜ at ≤ length (now text) + 1 ⌝ }
+    ensures { λ r. ⌜ MonthIs (now (text .entry)) at r ⌝ }
+{
+    if text.len() < at {
+        return Taking2::Wrongs;
+    }
+    let range = Range {
+        low: -60,
+        high: 19200,
+    };
+    match read_ranged(text, at, b'+', range) {
+        Number::Is { value: a, end } => match read_settings(text, end) {
+            Taking::Value { value: b, next } => Taking2::Values { a, b, next },
+            Taking::Wrong => Taking2::Wrongs,
+        },
+        Number::Bad => Taking2::Wrongs,
+    }
+}
+
+// A month, or up to two other fields.
+fn read_pair(text: &[u8], at: usize, first: u8, second: u8) -> Taking2
+    requires { ⌜ at ≤ length (now text) + 1 ⌝ }
+    ensures { λ r. ⌜ PairIs (classesOfTwo first second) (now (text .entry)) at r ⌝ }
+{
+    if first == NONE {
+        return Taking2::Values {
+            a: 0,
+            b: 0,
+            next: at,
+        };
+    }
+    if first == MONTH {
+        return read_month(text, at);
+    }
+    match read_field(text, at, first) {
+        Taking::Value { value: a, next } => {
+            if second == NONE {
+                return Taking2::Values { a, b: 0, next };
+            }
+            match read_field(text, next, second) {
+                Taking::Value { value: b, next: n } => Taking2::Values { a, b, next: n },
+                Taking::Wrong => Taking2::Wrongs,
+            }
+        }
+        Taking::Wrong => Taking2::Wrongs,
+    }
+}
+
+// A month and two more fields.
+fn after_month(text: &[u8], at: usize, second: u8, third: u8) -> Slots
+    requires { ⌜ at ≤ length (now text) + 1 ⌝ }
+    ensures { λ r. ⌜ SlotsAre (month ∷ classesOfTwo second third) (now (text .entry)) at r ⌝ }
+{
+    match read_month(text, at) {
+        Taking2::Values { a, b, next } => match read_pair(text, next, second, third) {
+            Taking2::Values {
+                a: c,
+                b: d,
+                next: n,
+            } => Slots::Filled {
+                a,
+                b,
+                c,
+                d,
+                next: n,
+            },
+            Taking2::Wrongs => Slots::Unfilled,
+        },
+        Taking2::Wrongs => Slots::Unfilled,
+    }
+}
+
+// A field that is no month, and two more.
+fn after_field(text: &[u8], at: usize, first: u8, second: u8, third: u8) -> Slots
+    requires { ⌜ at ≤ length (now text) + 1 ⌝ }
+    ensures { λ r. ⌜ SlotsAre (classOf first ∷ classesOfTwo second third) (now (text .entry)) at r ⌝ }
+{
+    match read_field(text, at, first) {
+        Taking::Value { value: a, next } => match read_pair(text, next, second, third) {
+            Taking2::Values {
+                a: b,
+                b: c,
+                next: n,
+            } => Slots::Filled {
+                a,
+                b,
+                c,
+                d: 0,
+                next: n,
+            },
+            Taking2::Wrongs => Slots::Unfilled,
+        },
+        Taking::Wrong => Slots::Unfilled,
+    }
+}
+
+pub fn read_fields(text: &[u8], at: usize, first: u8, second: u8, third: u8) -> Slots
+    requires { ⌜ at ≤ length (now text) + 1 ⌝ }
+    ensures { λ r. ⌜ SlotsAre (classesOfThree first second third) (now (text .entry)) at r ⌝ }
+{
+    if first == NONE {
+        return Slots::Filled {
+            a: 0,
+            b: 0,
+            c: 0,
+            d: 0,
+            next: at,
+        };
+    }
+    if first == MONTH {
+        return after_month(text, at, second, third);
+    }
+    after_field(text, at, first, second, third)
+}
