@@ -73,7 +73,8 @@ module _ (bound : ℕ → ℕ) where
   amount-kept a ea = kept-measured (amountSmall bound a) (magnitudeOfAmount bound a) (amount-limit a) ea
 
   join : (op : ℕ → ℕ → ℕ) (a b : Amount ℤ) {x y r : Measured} → x ≡ measuredAmount bound a → y ≡ measuredAmount bound b → r ≡ joined op x y
-      → r ≡ measured (amountSmall bound a && (amountSmall bound b && leb (op (magnitudeOfAmount bound a) (magnitudeOfAmount bound b)) maxAmount)) (op (magnitudeOfAmount bound a) (magnitudeOfAmount bound b))
+      → r ≡ measured (amountSmall bound a && (amountSmall bound b && leb (op (magnitudeOfAmount bound a) (magnitudeOfAmount bound b)) maxAmount))
+      (op (magnitudeOfAmount bound a) (magnitudeOfAmount bound b))
   join op a b ex ey er = joined-measured op (amountSmall bound a) (amountSmall bound b) (magnitudeOfAmount bound a) (magnitudeOfAmount bound b) ex ey er
 
 -- ---- amounts

@@ -1,6 +1,7 @@
 -- A filled plan that lies in the table is the plan found there, and can be walked.
 use Prim.Native.Nat.{_+_, _≤_, suc, zero, ℕ}
 use Rattle.language.proofs.Payoff.Filled.{fill-closed}
+use Rattle.language.proofs.Text.Form.{depth-map, fields-map}
 use Rattle.language.specs.Limits.{maxDepth, maxNodes}
 use Rattle.language.specs.Rules.Settings.{closed, delayOf, fill, mapPlan}
 use Rattle.language.specs.Text.Form.{delayInForm, depthOf, fieldsOf, filledInForm}
@@ -8,7 +9,7 @@ use Rattle.language.specs.Text.Letters as form
 use Rattle.language.specs.Text.Letters.{planForm}
 use Rattle.language.specs.Text.Plans.{planTrees}
 use Rattle.language.specs.Text.Reader.{Trees}
-use Rattle.language.specs.Text.Trees.{Amount, Delay, Plan, Test, both, later, months, nothing, scale, transfer, within}
+use Rattle.language.specs.Text.Trees.{Amount, Delay, Plan, Test, months, nothing}
 use Rattle.measures.proofs.BlocksLaid.{plan-blocks}
 use Rattle.measures.specs.Ready.{PlanReady}
 use Rattle.nodes.proofs.AmountsFound.{Finds}
@@ -24,26 +25,6 @@ use lib.IntN.{negsuc, pos, ℤ}
 use mathlib.Core.List.{List}
 use mathlib.Core.Path.{_∙_, _≡_, ap, refl, sym}
 use native.Mathlib.Omega.{arith}
-
--- ---- a plan whose delays are months
-
-depth-closed : (x : Plan ℕ) → depthOf (closed x) ≡ depthOf x
-unfolding depthOf mapPlan
-depth-closed nothing = refl
-depth-closed (transfer p q) = refl
-depth-closed (scale a x) = rw (depth-closed x) refl
-depth-closed (later d x) = rw (depth-closed x) refl
-depth-closed (both x y) = rw (depth-closed x, depth-closed y) refl
-depth-closed (within d t x y) = rw (depth-closed x, depth-closed y) refl
-
-fields-closed : (x : Plan ℕ) → fieldsOf filledInForm x → fieldsOf delayInForm (closed x)
-unfolding fieldsOf mapPlan
-fields-closed nothing f = f
-fields-closed (transfer p q) f = f
-fields-closed (scale a x) f = (f .0, fields-closed x (f .1))
-fields-closed (later d x) f = (f .0, fields-closed x (f .1))
-fields-closed (both x y) f = (fields-closed x (f .0), fields-closed y (f .1))
-fields-closed (within d t x y) f = (f .0, f .1, fields-closed x (f .2), fields-closed y (f .3))
 
 -- ---- found with its delays as numbers
 
@@ -82,7 +63,7 @@ module _ (nodes : List ℤ) where
   pub filled-found : (x : Plan ℕ) (r : Trees form.PlanLetter) (at left : ℕ) → Laid planForm nodes at (planTrees (closed x) r) → fieldsOf filledInForm x → depthOf x ≤ left → left ≤ maxDepth
       → Finds (planAt natOf left nodes at) x (PlanReady left nodes at)
   filled-found x r at left h f d b =
-      let u : depthOf (closed x) ≤ left = omega (arith, depth-closed x) in
-      let p = plan-found nodes (closed x) r at left h (fields-closed x f) u (omega arith) in
+      let u : depthOf (closed x) ≤ left = omega (arith, depth-map months x) in
+      let p = plan-found nodes (closed x) r at left h (fields-map months filledInForm delayInForm (λ d k. k) x f) u (omega arith) in
       let e : planAt natOf left nodes at ≡ x = sym (found-months left at) ∙ ap (fill none) (p .is) ∙ fill-closed none x in
       record { is = e; safe = record { depth = b; stands = p .safe; fields = rw e f; blocks = plan-blocks nodes (closed x) r at left h u (omega arith) } }

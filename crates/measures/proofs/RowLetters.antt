@@ -32,7 +32,8 @@ letter-is x =
     by (eqZ x (pos 78)) (eqZ x (pos 79)) (eqZ x (pos 65)) (eqZ x (pos 85)) (eqZ x (pos 75)) (eqZ x (pos 81)) (eqZ x (pos 73)) (λ e. rw (byte-of x 78 e) refl)
   where
     by : (n o a u k q i : Bool) → (n ≡ true → o ≡ false)
-        → indexAmount (cond n amount.Number (cond o amount.Index (cond a amount.Sum (cond u amount.Difference (cond k amount.Product (cond q amount.Quotient (cond i amount.Choose amount.NoAmount))))))) ≡ o
+        → indexAmount (cond n amount.Number (cond o amount.Index (cond a amount.Sum (cond u amount.Difference
+        (cond k amount.Product (cond q amount.Quotient (cond i amount.Choose amount.NoAmount))))))) ≡ o
     by true o a u k q i h = sym (h refl)
     by false true a u k q i h = refl
     by false false true u k q i h = refl

@@ -102,13 +102,16 @@ module _ {A : Type 0} {none : A} {op : A → A → A} {read : ℕ → ℤ → A}
     amount-by from to amount.Index e b = given (rw (amount-index _ e) (sym (j .of-index (natOf (slotAt nodes from 1)) (slotAt nodes from 2)))) (alone from to b)
     amount-by from to amount.Sum e b =
         given (sym (j .of-sum _ _))
-        (below from to (unread from (amount-other _ e)) (both (from + 1) (linkAt nodes from 3) to (amountRows (from + 1) (linkAt nodes from 3) (b .0)) (amountRows (linkAt nodes from 3) to (b .1))))
+        (below from to (unread from (amount-other _ e)) (both (from + 1) (linkAt nodes from 3) to
+        (amountRows (from + 1) (linkAt nodes from 3) (b .0)) (amountRows (linkAt nodes from 3) to (b .1))))
     amount-by from to amount.Difference e b =
         given (sym (j .of-difference _ _))
-        (below from to (unread from (amount-other _ e)) (both (from + 1) (linkAt nodes from 3) to (amountRows (from + 1) (linkAt nodes from 3) (b .0)) (amountRows (linkAt nodes from 3) to (b .1))))
+        (below from to (unread from (amount-other _ e)) (both (from + 1) (linkAt nodes from 3) to
+        (amountRows (from + 1) (linkAt nodes from 3) (b .0)) (amountRows (linkAt nodes from 3) to (b .1))))
     amount-by from to amount.Product e b =
         given (sym (j .of-product _ _))
-        (below from to (unread from (amount-other _ e)) (both (from + 1) (linkAt nodes from 3) to (amountRows (from + 1) (linkAt nodes from 3) (b .0)) (amountRows (linkAt nodes from 3) to (b .1))))
+        (below from to (unread from (amount-other _ e)) (both (from + 1) (linkAt nodes from 3) to
+        (amountRows (from + 1) (linkAt nodes from 3) (b .0)) (amountRows (linkAt nodes from 3) to (b .1))))
     amount-by from to amount.Quotient e b = given (sym (j .of-quotient _ _)) (below from to (unread from (amount-other _ e)) (amountRows (from + 1) to b))
     amount-by from to amount.Choose e b =
         let x = both (linkAt nodes from 3) (linkAt nodes from 4) to (amountRows (linkAt nodes from 3) (linkAt nodes from 4) (b .1)) (amountRows (linkAt nodes from 4) to (b .2)) in
@@ -122,16 +125,20 @@ module _ {A : Type 0} {none : A} {op : A → A → A} {read : ℕ → ℤ → A}
         (testAt offsetOf left nodes (from + 1)) (testAt offsetOf left nodes (linkAt nodes from 3))))
     test-by from to test.Less e b =
         given (sym (j .of-less _ _))
-        (below from to (unread from (test-other _ e refl)) (both (from + 1) (linkAt nodes from 3) to (amountRows (from + 1) (linkAt nodes from 3) (b .0)) (amountRows (linkAt nodes from 3) to (b .1))))
+        (below from to (unread from (test-other _ e refl)) (both (from + 1) (linkAt nodes from 3) to
+        (amountRows (from + 1) (linkAt nodes from 3) (b .0)) (amountRows (linkAt nodes from 3) to (b .1))))
     test-by from to test.Equal e b =
         given (sym (j .of-equal _ _))
-        (below from to (unread from (test-other _ e refl)) (both (from + 1) (linkAt nodes from 3) to (amountRows (from + 1) (linkAt nodes from 3) (b .0)) (amountRows (linkAt nodes from 3) to (b .1))))
+        (below from to (unread from (test-other _ e refl)) (both (from + 1) (linkAt nodes from 3) to
+        (amountRows (from + 1) (linkAt nodes from 3) (b .0)) (amountRows (linkAt nodes from 3) to (b .1))))
     test-by from to test.Conjunction e b =
         given (sym (j .of-conjunction _ _))
-        (below from to (unread from (test-other _ e refl)) (both (from + 1) (linkAt nodes from 3) to (testRows (from + 1) (linkAt nodes from 3) (b .0)) (testRows (linkAt nodes from 3) to (b .1))))
+        (below from to (unread from (test-other _ e refl)) (both (from + 1) (linkAt nodes from 3) to
+        (testRows (from + 1) (linkAt nodes from 3) (b .0)) (testRows (linkAt nodes from 3) to (b .1))))
     test-by from to test.Disjunction e b =
         given (sym (j .of-disjunction _ _))
-        (below from to (unread from (test-other _ e refl)) (both (from + 1) (linkAt nodes from 3) to (testRows (from + 1) (linkAt nodes from 3) (b .0)) (testRows (linkAt nodes from 3) to (b .1))))
+        (below from to (unread from (test-other _ e refl)) (both (from + 1) (linkAt nodes from 3) to
+        (testRows (from + 1) (linkAt nodes from 3) (b .0)) (testRows (linkAt nodes from 3) to (b .1))))
     test-by from to test.Negation e b = given (sym (j .of-negation _)) (below from to (unread from (test-other _ e refl)) (testRows (from + 1) to b))
     test-by from to test.NoTest e b = absurd b
 

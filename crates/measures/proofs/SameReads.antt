@@ -36,7 +36,7 @@ module _ (s t : Table) (eh : s .h ≡ t .h) (ef : s .f ≡ t .f) (en : length (s
       same-test (disjunction x y) = ap₂ _&&_ (same-test x) (same-test y)
       same-test (negation x) = same-test x
 
-  same-plan : (x : Plan ℕ) (a z : ℕ) → planReads s a z x ≡ planReads t a z x
+  pub same-plan : (x : Plan ℕ) (a z : ℕ) → planReads s a z x ≡ planReads t a z x
   unfolding planReads
   same-plan nothing a z = refl
   same-plan (transfer p q) a z = refl

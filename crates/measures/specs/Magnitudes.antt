@@ -25,6 +25,7 @@ use mathlib.Core.Path.{_≡_}
 abbrev pub measured : Bool → ℕ → Measured
 measured small n = cond small (Within (record { 0 = pos n })) Beyond
 
+-- what a walk for magnitude answers for an amount and for a plan
 abbrev pub measuredAmount : (ℕ → ℕ) → Amount ℤ → Measured
 measuredAmount bound a = measured (amountSmall bound a) (magnitudeOfAmount bound a)
 
@@ -37,10 +38,12 @@ joined op (Within a) (Within b) = let n = op (natOf (a .0)) (natOf (b .0)) in me
 joined op (Within a) Beyond = Beyond
 joined op Beyond b = Beyond
 
+-- is there a magnitude
 abbrev pub isWithin : Measured → Bool
 isWithin (Within p) = true
 isWithin Beyond = false
 
+-- a bounded sum or product as a magnitude
 abbrev pub measuredOf : Bounded → Measured
 measuredOf (bounded.Within p) = Within p
 measuredOf bounded.OutOfRange = Beyond

@@ -1,4 +1,5 @@
--- A plan, amount or test that can be walked from a node on: the walk stays in the table, and every field is in form.
+-- A plan, amount or test that can be walked from a node on: the walk stays in the table, every field is in form, and in a plan the rows
+-- of each amount and test stand together.
 use Prim.Native.Nat.{_+_, _<_, _≤_, ℕ}
 use Rattle.language.specs.Limits.{maxDepth, maxNodes}
 use Rattle.language.specs.Text.Form.{fieldsOf, fieldsOfAmount, fieldsOfTest, filledInForm, offsetInForm}

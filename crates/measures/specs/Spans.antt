@@ -16,7 +16,7 @@ use mathlib.Core.List.{[]}
 abbrev pub tableOf : Reach → Table
 tableOf s = record { h = s .h; f = s .f; factors = []; bounds = replicate (s .labels) (pos 0); values = [] }
 
--- the first and the last month in which a node may stand, with room for `left` more delays
+-- the first and the last month in which a node may stand, with room for `left` more delays: today 600 and 32 delays of 600 make 19,800
 pub record InReach (left : ℕ) (first last : Month) (span : Reach) : Type 0 where
   pub firstFrom : T (nonNeg (first .0))
   pub lastFrom : T (nonNeg (last .0))

@@ -13,16 +13,18 @@ use lib.IntN.{pos}
 use mathlib.Core.Bool.{Bool, false, true}
 use mathlib.Core.Path.{_≡_}
 
+-- the latest read of an amount or test
 abbrev pub latestRead : Latest → LatestRead
 latestRead noMonth = NoMonth
 latestRead (atMost i) = AtMost (record { 0 = i })
 
--- the first, where all is known in time
+-- the first month of a plan, where all of it is known in time
 abbrev pub firstPay : Bool → First → FirstPay
 firstPay false x = Late
 firstPay true never = Never
 firstPay true (from n) = From (record { 0 = pos n })
 
+-- what a walk for first answers
 abbrev pub firstPayOf : Plan ℕ → FirstPay
 firstPayOf x = firstPay (knownInTime x) (firstOf x)
 

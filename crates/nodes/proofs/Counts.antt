@@ -1,5 +1,5 @@
 -- A plan's or payoff's table has a row for each of its nodes.
-use Prim.Native.Nat.{_+_, _≤_, ℕ}
+use Prim.Native.Nat.{_+_, _≤_}
 use mathlib.Core.Path.{_≡_}
 use native.Mathlib.Omega.{arith}
 use Rattle.language.specs.Limits.{maxNodes}

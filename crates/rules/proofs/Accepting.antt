@@ -21,10 +21,10 @@ use Rattle.language.specs.Rules.Tests.{knownInTime, planReads, planSmall}
 use Rattle.language.specs.Rules.Measures.{lengthOf}
 use Rattle.language.specs.Text.Number.{between}
 use Rattle.language.specs.Text.Trees.{Delay, Plan}
+use Rattle.measures.proofs.SameReads.{same-plan}
 use Rattle.measures.specs.Ready.{PlanReady}
 use Rattle.nodes.specs.Found.{planAt}
 use Rattle.nodes.specs.Table.{natOf}
-use Rattle.rules.proofs.SameReads.{same-reads}
 use Rattle.rules.proofs.Filling.{fill-formed, set-is, stands-filled, walked}
 use Rattle.rules.specs.Accepting.{AcceptIs, accepting}
 use Rattle.rules.specs.Answers.{checkingAnswer, givenOf}
@@ -77,7 +77,7 @@ module _ (days : List ℤ) (h f : ℤ) (factors bounds values : List ℤ) (today
       pub by-rules : settingsOk days ≡ true → allSet days x ≡ true → natOf today ≡ natAbs today → measuredBy h f bounds (natOf today) y ≡ accepting g today ok x
       unfolding acceptPlan meetsRules
       by-rules e s n =
-          rw (n, t, m, e, s, same-reads (tableOf h f [] bounds []) (g .table) refl refl refl (natAbs today) (natAbs today) y)
+          rw (n, t, m, e, s, same-plan (tableOf h f [] bounds []) (g .table) refl refl refl y (natAbs today) (natAbs today))
           (regroup (leb (natAbs today + lengthOf y) (natAbs f)) (planReads (g .table) (natAbs today) (natAbs today) y) (knownInTime y) (planSmall (boundAt (g .table)) y))
         where
           regroup : (a b c d : Bool) → (require 10 a >> (require 11 b >> (require 7 c >> require 6 d))) >> got (checkedOf (g .table) y) ≡ ((require 10 a >> (require 11 b >> (require 7 c >> require 6 d))) >> got y) >>= λ z. got (checkedOf (g .table) z)

@@ -3,4 +3,3 @@ pub mod Accepting
 pub mod Checks
 pub mod Filling
 pub mod Measuring
-pub mod SameReads

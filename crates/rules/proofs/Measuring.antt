@@ -3,7 +3,6 @@ use Prim.Native.Nat.{_+_, _≤_, ℕ}
 use borrow.Author.Tests.{le-leb, lt-leb}
 use lib.Dec.{T, leb}
 use lib.IntN.{_+ℤ_, natAbs, negsuc, pos, ℤ}
-use lib.ListN.{length-replicate}
 use lib.Signed.{ltZ, nonNeg}
 use mathlib.Core.Bool.{Bool, false, true}
 use mathlib.Core.List.{List, []}
@@ -19,13 +18,13 @@ use Rattle.language.specs.Rules.Measures.{lengthOf, magnitudeOf}
 use Rattle.language.specs.Rules.Table.{Table}
 use Rattle.language.specs.Rules.Tests.{knownInTime, planReads, planSmall}
 use Rattle.language.specs.Text.Trees.{Plan}
+use Rattle.measures.proofs.SameReads.{span-reads}
 use Rattle.measures.specs.Magnitudes.{boundIn, measured, measuredPlan}
 use Rattle.measures.specs.Spans as reads
 use Rattle.measures.specs.declared.limit.Measured.{Measured}
 use Rattle.measures.specs.declared.limit.Measured.the-variants.{Beyond, Within}
 use Rattle.measures.specs.declared.reads.Reach.{Reach}
 use Rattle.nodes.specs.Table.{natOf}
-use Rattle.rules.proofs.SameReads.{same-reads}
 use Rattle.rules.specs.Answers.{checkingAnswer}
 use Rattle.rules.specs.Measured.{InTable, measuredBy}
 use Rattle.rules.specs.declared.Checking.the-variants.{Accepted, Refused}
@@ -77,7 +76,7 @@ module _ (today : ℤ) (s : Reach) (bounds : List ℤ) (x : Plan ℕ) (h : InTab
       go (negsuc n) p q = absurd p
 
   reads-is : {b : Bool} → b ≡ planReads (reads.tableOf s) (natOf today) (natOf today) x → b ≡ planReads table (natOf today) (natOf today) x
-  reads-is e = e ∙ same-reads (reads.tableOf s) table refl refl (length-replicate (s .labels) (pos 0) ∙ h .labelled) (natOf today) (natOf today) x
+  reads-is e = e ∙ span-reads s table refl refl (h .labelled) x (natOf today) (natOf today)
 
   pub too-long : (l : ℤ) → l ≡ pos (lengthOf x) → ltZ (s .f) (today +ℤ l) ≡ true → checkingAnswer (Refused Length) ≡ answer
   unfolding checkingAnswer meetsRules

@@ -15,6 +15,7 @@ mod trees;
 
 use letters::ROOT;
 use letters::TextForm;
+use trees::MAX_DEPTH;
 use trees::Read;
 use trees::read_node;
 
@@ -58,7 +59,7 @@ fn read_text(form: TextForm, text: &[u8], nodes: &mut [i64]) -> Reading
     if longest(form) < text.len() {
         return Reading::Refused(Refusal::TooLong);
     }
-    match read_node(form, text, 0, ROOT, nodes, 0, 32) {
+    match read_node(form, text, 0, ROOT, nodes, 0, MAX_DEPTH) {
         Read::Done { next, count } => {
             if next <= text.len() {
                 Reading::Refused(Refusal::NotOfForm)

@@ -110,20 +110,31 @@ fn after_field(text: &[u8], at: usize, first: u8, second: u8, third: u8) -> Slot
     ensures { λ r. ⌜ SlotsAre (classOf first ∷ classesOfTwo second third) (now (text .entry)) at r ⌝ }
 {
     match read_field(text, at, first) {
-        Taking::Value { value: a, next } => match read_pair(text, next, second, third) {
-            Taking2::Values {
-                a: b,
-                b: c,
-                next: n,
-            } => Slots::Filled {
-                a,
-                b,
-                c,
-                d: 0,
-                next: n,
-            },
-            Taking2::Wrongs => Slots::Unfilled,
-        },
+        Taking::Value { value: a, next } => {
+            if second == NONE {
+                return Slots::Filled {
+                    a,
+                    b: 0,
+                    c: 0,
+                    d: 0,
+                    next,
+                };
+            }
+            match read_pair(text, next, second, third) {
+                Taking2::Values {
+                    a: b,
+                    b: c,
+                    next: n,
+                } => Slots::Filled {
+                    a,
+                    b,
+                    c,
+                    d: 0,
+                    next: n,
+                },
+                Taking2::Wrongs => Slots::Unfilled,
+            }
+        }
         Taking::Wrong => Slots::Unfilled,
     }
 }

@@ -15,6 +15,10 @@ use crate::letters::shape_of;
 use crate::slots::Slots;
 use crate::slots::read_fields;
 
+pub const MAX_DEPTH: usize = 32;
+
+const MAX_NODES: usize = 512;
+
 // A field of a single byte.
 pub enum Sole {
     Byte(u8),
@@ -82,7 +86,7 @@ fn open_node(form: TextForm, text: &[u8], at: usize, kind: u8, count: usize, lef
             if s.kind != kind {
                 return Opened::Closed(Refusal::WrongKind);
             }
-            if 512 <= count {
+            if MAX_NODES <= count {
                 return Opened::Closed(Refusal::TooManyNodes);
             }
             if left == 0 {

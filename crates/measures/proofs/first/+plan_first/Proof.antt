@@ -33,7 +33,26 @@ plan-first-below t =
     and 1 plan-first-kinds.ps (falls 1 plan-first-kinds.ps _<_ μ-plan-first t) plan-first.Pre
 
 abbrev plan-first-calls : ℕ → plan-first-lts.Claims
-plan-first-calls t = (plan-kind-reads.Asked, plan-kind-reads.Learnt, link-reads.Asked, link-reads.Learnt, rows-latest-reads.Asked, rows-latest-reads.Learnt, plan-first-below t, plan-first.Post, in-time-reads.Asked, in-time-reads.Learnt, delay-reads.Asked, delay-reads.Learnt, after-delay-reads.Asked, after-delay-reads.Learnt, sooner-of-reads.Asked, sooner-of-reads.Learnt, tried-in-time-reads.Asked, tried-in-time-reads.Learnt)
+plan-first-calls t = (
+  plan-kind-reads.Asked,
+  plan-kind-reads.Learnt,
+  link-reads.Asked,
+  link-reads.Learnt,
+  rows-latest-reads.Asked,
+  rows-latest-reads.Learnt,
+  plan-first-below t,
+  plan-first.Post,
+  in-time-reads.Asked,
+  in-time-reads.Learnt,
+  delay-reads.Asked,
+  delay-reads.Learnt,
+  after-delay-reads.Asked,
+  after-delay-reads.Learnt,
+  sooner-of-reads.Asked,
+  sooner-of-reads.Learnt,
+  tried-in-time-reads.Asked,
+  tried-in-time-reads.Learnt,
+)
 
 plan-first-plan-kind-requires : (t : ℕ) → plan-first-lts.Need-plan-kind-requires (plan-first-calls t) (plan-first-at t) plan-first.Post
 plan-first-plan-kind-requires t c κs =
@@ -228,10 +247,13 @@ plan-first-returns-6 t c =
     let h = c .before .before .before .before .before .before .before .before .before .before .pre .1 in
     let k = c .before .before .before .before .before .before .before .before .before .plan-kind .ensures in
     let q = c .before .before .before .before .before .before .before .enum-told6 .given .1 in
-    let l = rows.within-latest h k (c .before .before .before .before .before .before .link3 .ensures) (c .before .before .before .before .before .rows-latest2 .ensures) q in
+    let link3-is = c .before .before .before .before .before .before .link3 .ensures in
+    let rows-latest2-is = c .before .before .before .before .before .rows-latest2 .ensures in
+    let l = rows.within-latest h k link3-is rows-latest2-is q in
     let x = c .before .before .before .before .plan-first5 .ensures in
     let y = c .before .before .plan-first6 .ensures in
-    laws.within-first h k q (c .before .before .before .before .before .before .link3 .ensures) (c .before .before .before .link4 .ensures) l x y (c .before .sooner-of2 .ensures) (c .tried-in-time .ensures)
+    let link4-is = c .before .before .before .link4 .ensures in
+    laws.within-first h k q link3-is link4-is l x y (c .before .sooner-of2 .ensures) (c .tried-in-time .ensures)
 
 plan-first-returns-7 : (t : ℕ) → plan-first-lts.Need-returns-7 (plan-first-calls t) (plan-first-at t) plan-first.Post
 plan-first-returns-7 t c =

@@ -27,7 +27,9 @@ returns-2 : tie.Need-returns-2
 returns-2 c =
     let f : SFits w64 (c .before .before .before .before .before .before .before .before .before .l .given .0 .0 .0) = search needs in
     let g : SFits w64 (c .before .before .before .before .before .before .a .given .0 .0 .0) = search needs in
-    λ y p x el ea. laws.in-time-from y p x el ea (c .before .before .before .before .before .before .before .before .before .l .given .1) f (c .before .before .before .before .before .before .a .given .1) g (c .if1 .taken)
+    let l-told = c .before .before .before .before .before .before .before .before .before .l .given .1 in
+    let a-told = c .before .before .before .before .before .before .a .given .1 in
+    λ y p x el ea. laws.in-time-from y p x el ea l-told f a-told g (c .if1 .taken)
 
 returns-3 : tie.Need-returns-3
 returns-3 c = λ y p x el ea. laws.in-time-late y p x el ea (c .before .before .before .l .given .1) (c .enum-told2 .given .1)
@@ -39,7 +41,9 @@ returns-5 : tie.Need-returns-5
 returns-5 c =
     let f : SFits w64 (c .before .before .before .before .before .before .before .before .before .l .given .0 .0 .0) = search needs in
     let g : SFits w64 (c .before .before .before .before .before .before .a .given .0 .0 .0) = search needs in
-    λ y p x el ea. laws.in-time-not y p x el ea (c .before .before .before .before .before .before .before .before .before .l .given .1) f (c .before .before .before .before .before .before .a .given .1) g (c .if1 .left)
+    let l-told = c .before .before .before .before .before .before .before .before .before .l .given .1 in
+    let a-told = c .before .before .before .before .before .before .a .given .1 in
+    λ y p x el ea. laws.in-time-not y p x el ea l-told f a-told g (c .if1 .left)
 
 pub in-time-spec : {M : Type 1} → statement M
 in-time-spec =

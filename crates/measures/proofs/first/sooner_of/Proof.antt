@@ -27,7 +27,9 @@ returns : tie.Need-returns
 returns c =
     let f : SFits w64 (c .before .before .before .before .before .before .before .before .before .a .given .0 .0 .0) = search needs in
     let g : SFits w64 (c .before .before .before .before .before .before .b .given .0 .0 .0) = search needs in
-    λ p q x y ea eb. laws.sooner-first p q x y ea eb (c .before .before .before .before .before .before .before .before .before .a .given .1) (c .before .before .before .before .before .before .b .given .1) f g (c .if1 .taken)
+    let a-told = c .before .before .before .before .before .before .before .before .before .a .given .1 in
+    let b-told = c .before .before .before .before .before .before .b .given .1 in
+    λ p q x y ea eb. laws.sooner-first p q x y ea eb a-told b-told f g (c .if1 .taken)
 
 returns-2 : tie.Need-returns-2
 returns-2 c = λ p q x y ea eb. laws.sooner-late p q x y ea eb (c .enum-told .given .1)
@@ -45,7 +47,9 @@ returns-6 : tie.Need-returns-6
 returns-6 c =
     let f : SFits w64 (c .before .before .before .before .before .before .before .before .before .a .given .0 .0 .0) = search needs in
     let g : SFits w64 (c .before .before .before .before .before .before .b .given .0 .0 .0) = search needs in
-    λ p q x y ea eb. laws.sooner-second p q x y ea eb (c .before .before .before .before .before .before .before .before .before .a .given .1) (c .before .before .before .before .before .before .b .given .1) f g (c .if1 .left)
+    let a-told = c .before .before .before .before .before .before .before .before .before .a .given .1 in
+    let b-told = c .before .before .before .before .before .before .b .given .1 in
+    λ p q x y ea eb. laws.sooner-second p q x y ea eb a-told b-told f g (c .if1 .left)
 
 pub sooner-of-spec : {M : Type 1} → statement M
 sooner-of-spec =

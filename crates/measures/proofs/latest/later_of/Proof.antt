@@ -27,13 +27,17 @@ returns-3 : tie.Need-returns-3
 returns-3 c =
     let f : SFits w64 (c .before .before .before .before .before .before .before .before .before .a .given .0 .0 .0) = search needs in
     let g : SFits w64 (c .before .before .before .before .before .before .b .given .0 .0 .0) = search needs in
-    λ x y ea eb. laws.later-second x y ea eb (c .before .before .before .before .before .before .before .before .before .a .given .1) (c .before .before .before .before .before .before .b .given .1) f g (c .if1 .taken)
+    let a-told = c .before .before .before .before .before .before .before .before .before .a .given .1 in
+    let b-told = c .before .before .before .before .before .before .b .given .1 in
+    λ x y ea eb. laws.later-second x y ea eb a-told b-told f g (c .if1 .taken)
 
 returns-4 : tie.Need-returns-4
 returns-4 c =
     let f : SFits w64 (c .before .before .before .before .before .before .before .before .before .a .given .0 .0 .0) = search needs in
     let g : SFits w64 (c .before .before .before .before .before .before .b .given .0 .0 .0) = search needs in
-    λ x y ea eb. laws.later-first x y ea eb (c .before .before .before .before .before .before .before .before .before .a .given .1) (c .before .before .before .before .before .before .b .given .1) f g (c .if1 .left)
+    let a-told = c .before .before .before .before .before .before .before .before .before .a .given .1 in
+    let b-told = c .before .before .before .before .before .before .b .given .1 in
+    λ x y ea eb. laws.later-first x y ea eb a-told b-told f g (c .if1 .left)
 
 pub later-of-spec : {M : Type 1} → statement M
 later-of-spec =

@@ -10,7 +10,11 @@ offset-requires : tie.Need-offset-requires
 offset-requires c κs = search needs
 
 returns : tie.Need-returns
-returns c = laws.row-index (c .before .before .before .args .nodes .now) (c .before .before .before .args .at) (c .before .before .is-index .ensures) (c .before .if1 .taken) (c .offset .ensures)
+returns c =
+    let the-nodes = c .before .before .before .args .nodes .now in
+    let the-at = c .before .before .before .args .at in
+    let is-index-is = c .before .before .is-index .ensures in
+    laws.row-index the-nodes the-at is-index-is (c .before .if1 .taken) (c .offset .ensures)
 
 returns-2 : tie.Need-returns-2
 returns-2 c = laws.row-other (c .before .before .args .nodes .now) (c .before .before .args .at) (c .before .is-index .ensures) (c .if1 .left)

@@ -28,7 +28,20 @@ plan-length-below t =
     and 1 plan-length-kinds.ps (falls 1 plan-length-kinds.ps _<_ μ-plan-length t) plan-length.Pre
 
 abbrev plan-length-calls : ℕ → plan-length-lts.Claims
-plan-length-calls t = (plan-kind-reads.Asked, plan-kind-reads.Learnt, link-reads.Asked, link-reads.Learnt, plan-length-below t, plan-length.Post, delay-reads.Asked, delay-reads.Learnt, later-reads.Asked, later-reads.Learnt, longer-reads.Asked, longer-reads.Learnt)
+plan-length-calls t = (
+  plan-kind-reads.Asked,
+  plan-kind-reads.Learnt,
+  link-reads.Asked,
+  link-reads.Learnt,
+  plan-length-below t,
+  plan-length.Post,
+  delay-reads.Asked,
+  delay-reads.Learnt,
+  later-reads.Asked,
+  later-reads.Learnt,
+  longer-reads.Asked,
+  longer-reads.Learnt,
+)
 
 plan-length-plan-kind-requires : (t : ℕ) → plan-length-lts.Need-plan-kind-requires (plan-length-calls t) (plan-length-at t) plan-length.Post
 plan-length-plan-kind-requires t c κs =
@@ -169,10 +182,14 @@ plan-length-later-requires-2 t c κs =
     let k = c .before .before .before .before .before .before .before .before .plan-kind .ensures in
     let q = c .before .before .before .before .before .before .enum-told6 .given .1 in
     let r = plans.within-ready h k q in
-    let x = c .longer2 .ensures _ _ (c .before .before .before .plan-length5 .ensures) (c .before .plan-length6 .ensures) in
+    let plan-length5-is = c .before .before .before .plan-length5 .ensures in
+    let x = c .longer2 .ensures _ _ plan-length5-is (c .before .plan-length6 .ensures) in
     let b = laws.length-bound (r .2 .1) in
     let d = laws.length-bound (r .3 .1) in
-    (laws.few (c .before .before .before .before .before .delay2 .ensures) (omega (arith, r .0)), laws.few x (rw (c .before .before .before .before .link3 .ensures, c .before .before .link4 .ensures) (omega (arith, b, d))))
+    let delay2-is = c .before .before .before .before .before .delay2 .ensures in
+    let link3-is = c .before .before .before .before .link3 .ensures in
+    let link4-is = c .before .before .link4 .ensures in
+    (laws.few delay2-is (omega (arith, r .0)), laws.few x (rw (link3-is, link4-is) (omega (arith, b, d))))
 
 plan-length-returns : (t : ℕ) → plan-length-lts.Need-returns (plan-length-calls t) (plan-length-at t) plan-length.Post
 plan-length-returns t c =
@@ -215,8 +232,13 @@ plan-length-returns-6 t c =
     let h = c .before .before .before .before .before .before .before .before .before .before .pre .1 in
     let k = c .before .before .before .before .before .before .before .before .before .plan-kind .ensures in
     let q = c .before .before .before .before .before .before .before .enum-told6 .given .1 in
-    let x = c .before .longer2 .ensures _ _ (c .before .before .before .before .plan-length5 .ensures) (c .before .before .plan-length6 .ensures) in
-    laws.within-length h k q (c .before .before .before .before .before .link3 .ensures) (c .before .before .before .link4 .ensures) (c .before .before .before .before .before .before .delay2 .ensures) x (c .later2 .ensures)
+    let plan-length5-is = c .before .before .before .before .plan-length5 .ensures in
+    let plan-length6-is = c .before .before .plan-length6 .ensures in
+    let x = c .before .longer2 .ensures _ _ plan-length5-is plan-length6-is in
+    let link3-is = c .before .before .before .before .before .link3 .ensures in
+    let link4-is = c .before .before .before .link4 .ensures in
+    let delay2-is = c .before .before .before .before .before .before .delay2 .ensures in
+    laws.within-length h k q link3-is link4-is delay2-is x (c .later2 .ensures)
 
 plan-length-returns-7 : (t : ℕ) → plan-length-lts.Need-returns-7 (plan-length-calls t) (plan-length-at t) plan-length.Post
 plan-length-returns-7 t c =

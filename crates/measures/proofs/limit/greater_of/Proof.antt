@@ -22,19 +22,31 @@ enum-told-2 : tie.Need-enum-told-2
 enum-told-2 c = search needs
 
 returns-2 : tie.Need-returns-2
-returns-2 c = laws.second-beyond max (c .before .before .before .before .before .args .two .first) (c .before .before .before .before .before .args .two .second) (c .before .before .before .a .given .1) (c .enum-told2 .given .1)
+returns-2 c =
+    let the-two-first = c .before .before .before .before .before .args .two .first in
+    let the-two-second = c .before .before .before .before .before .args .two .second in
+    let a-told = c .before .before .before .a .given .1 in
+    laws.second-beyond max the-two-first the-two-second a-told (c .enum-told2 .given .1)
 
 returns-3 : tie.Need-returns-3
 returns-3 c =
     let f : SFits w64 (c .before .before .before .before .before .before .before .before .before .a .given .0 .0 .0) = search needs in
     let g : SFits w64 (c .before .before .before .before .before .before .b .given .0 .0 .0) = search needs in
-    laws.second-greater (c .before .before .before .before .before .before .before .before .before .before .before .pre .0) (c .before .before .before .before .before .before .before .before .before .before .before .pre .1) (c .before .before .before .before .before .before .before .before .before .a .given .1) (c .before .before .before .before .before .before .b .given .1) f g (c .if1 .taken)
+    let pre-0 = c .before .before .before .before .before .before .before .before .before .before .before .pre .0 in
+    let pre-1 = c .before .before .before .before .before .before .before .before .before .before .before .pre .1 in
+    let a-told = c .before .before .before .before .before .before .before .before .before .a .given .1 in
+    let b-told = c .before .before .before .before .before .before .b .given .1 in
+    laws.second-greater pre-0 pre-1 a-told b-told f g (c .if1 .taken)
 
 returns-4 : tie.Need-returns-4
 returns-4 c =
     let f : SFits w64 (c .before .before .before .before .before .before .before .before .before .a .given .0 .0 .0) = search needs in
     let g : SFits w64 (c .before .before .before .before .before .before .b .given .0 .0 .0) = search needs in
-    laws.first-greater (c .before .before .before .before .before .before .before .before .before .before .before .pre .0) (c .before .before .before .before .before .before .before .before .before .before .before .pre .1) (c .before .before .before .before .before .before .before .before .before .a .given .1) (c .before .before .before .before .before .before .b .given .1) f g (c .if1 .left)
+    let pre-0 = c .before .before .before .before .before .before .before .before .before .before .before .pre .0 in
+    let pre-1 = c .before .before .before .before .before .before .before .before .before .before .before .pre .1 in
+    let a-told = c .before .before .before .before .before .before .before .before .before .a .given .1 in
+    let b-told = c .before .before .before .before .before .before .b .given .1 in
+    laws.first-greater pre-0 pre-1 a-told b-told f g (c .if1 .left)
 
 pub greater-of-spec : {M : Type 1} → statement M
 greater-of-spec =

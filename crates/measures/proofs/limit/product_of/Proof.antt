@@ -20,16 +20,29 @@ enum-told-2 : tie.Need-enum-told-2
 enum-told-2 c = search needs
 
 returns-2 : tie.Need-returns-2
-returns-2 c = laws.second-beyond _*_ (c .before .before .before .before .before .args .two .first) (c .before .before .before .before .before .args .two .second) (c .before .before .before .a .given .1) (c .enum-told2 .given .1)
+returns-2 c =
+    let the-two-first = c .before .before .before .before .before .args .two .first in
+    let the-two-second = c .before .before .before .before .before .args .two .second in
+    let a-told = c .before .before .before .a .given .1 in
+    laws.second-beyond _*_ the-two-first the-two-second a-told (c .enum-told2 .given .1)
 
 product-requires : tie.Need-product-requires
-product-requires c κs = (c .before .before .before .before .before .before .pre .0 .small _ (c .before .before .before .before .a .given .1), c .before .before .before .before .before .before .pre .1 .small _ (c .before .b .given .1))
+product-requires c κs =
+    let a-told = c .before .before .before .before .a .given .1 in
+    let pre-0-small = c .before .before .before .before .before .before .pre .0 .small in
+    let pre-1-small = c .before .before .before .before .before .before .pre .1 .small in
+    (pre-0-small _ a-told, pre-1-small _ (c .before .b .given .1))
 
 measured-of-requires : tie.Need-measured-of-requires
 measured-of-requires c κs = search needs
 
 returns-3 : tie.Need-returns-3
-returns-3 c = laws.product-joined (c .before .before .before .before .before .before .before .before .pre .0) (c .before .before .before .before .before .before .before .before .pre .1) (c .before .before .before .before .before .before .a .given .1) (c .before .before .before .b .given .1) (c .before .product .ensures) (c .measured-of .ensures)
+returns-3 c =
+    let pre-0 = c .before .before .before .before .before .before .before .before .pre .0 in
+    let pre-1 = c .before .before .before .before .before .before .before .before .pre .1 in
+    let a-told = c .before .before .before .before .before .before .a .given .1 in
+    let b-told = c .before .before .before .b .given .1 in
+    laws.product-joined pre-0 pre-1 a-told b-told (c .before .product .ensures) (c .measured-of .ensures)
 
 pub product-of-spec : {M : Type 1} → statement M
 product-of-spec =

@@ -84,7 +84,30 @@ two-tests-below t =
     and 2 two-tests-kinds.ps (falls 2 two-tests-kinds.ps _<_ μ-two-tests t) two-tests.Pre
 
 abbrev amount-magnitude-calls : ℕ → amount-magnitude-lts.Claims
-amount-magnitude-calls t = (amount-kind-reads.Asked, amount-kind-reads.Learnt, distance-reads.Asked, distance-reads.Learnt, label-reads.Asked, label-reads.Learnt, bound-of-reads.Asked, bound-of-reads.Learnt, two-amounts-below t, two-amounts.Post, sum-of-reads.Asked, sum-of-reads.Learnt, product-of-reads.Asked, product-of-reads.Learnt, amount-magnitude-below t, amount-magnitude.Post, test-small-below t, test-small.Post, link-reads.Asked, link-reads.Learnt, greater-of-reads.Asked, greater-of-reads.Learnt)
+amount-magnitude-calls t = (
+  amount-kind-reads.Asked,
+  amount-kind-reads.Learnt,
+  distance-reads.Asked,
+  distance-reads.Learnt,
+  label-reads.Asked,
+  label-reads.Learnt,
+  bound-of-reads.Asked,
+  bound-of-reads.Learnt,
+  two-amounts-below t,
+  two-amounts.Post,
+  sum-of-reads.Asked,
+  sum-of-reads.Learnt,
+  product-of-reads.Asked,
+  product-of-reads.Learnt,
+  amount-magnitude-below t,
+  amount-magnitude.Post,
+  test-small-below t,
+  test-small.Post,
+  link-reads.Asked,
+  link-reads.Learnt,
+  greater-of-reads.Asked,
+  greater-of-reads.Learnt,
+)
 
 amount-magnitude-amount-kind-requires : (t : ℕ) → amount-magnitude-lts.Need-amount-kind-requires (amount-magnitude-calls t) (amount-magnitude-at t) amount-magnitude.Post
 amount-magnitude-amount-kind-requires t c κs =
@@ -233,7 +256,9 @@ amount-magnitude-amount-magnitude-requires-3 t c κs =
     (omega (arith, amounts.amount-some h), rw (c .link2 .ensures) (amounts.choose-ready h k q .2 .1, m))
 
 amount-magnitude-greater-of-requires : (t : ℕ) → amount-magnitude-lts.Need-greater-of-requires (amount-magnitude-calls t) (amount-magnitude-at t) amount-magnitude.Post
-amount-magnitude-greater-of-requires t c κs = (laws.amount-kept _ _ (c .before .before .before .amount-magnitude2 .ensures), laws.amount-kept _ _ (c .before .amount-magnitude3 .ensures))
+amount-magnitude-greater-of-requires t c κs =
+    let amount-magnitude2-is = c .before .before .before .amount-magnitude2 .ensures in
+    (laws.amount-kept _ _ amount-magnitude2-is, laws.amount-kept _ _ (c .before .amount-magnitude3 .ensures))
 
 amount-magnitude-returns : (t : ℕ) → amount-magnitude-lts.Need-returns (amount-magnitude-calls t) (amount-magnitude-at t) amount-magnitude.Post
 amount-magnitude-returns t c =
@@ -244,7 +269,9 @@ amount-magnitude-returns t c =
     let t = c .before .before .before .before .before .before .test-small .ensures in
     let x = c .before .before .before .before .amount-magnitude2 .ensures in
     let y = c .before .before .amount-magnitude3 .ensures in
-    laws.choose-magnitude b h k q t (c .before .if1 .taken) (c .before .before .before .before .before .link .ensures) (c .before .before .before .link2 .ensures) x y (c .greater-of .ensures)
+    let link-is = c .before .before .before .before .before .link .ensures in
+    let link2-is = c .before .before .before .link2 .ensures in
+    laws.choose-magnitude b h k q t (c .before .if1 .taken) link-is link2-is x y (c .greater-of .ensures)
 
 amount-magnitude-returns-2 : (t : ℕ) → amount-magnitude-lts.Need-returns-2 (amount-magnitude-calls t) (amount-magnitude-at t) amount-magnitude.Post
 amount-magnitude-returns-2 t c =
@@ -362,7 +389,18 @@ amount-magnitude-part t =
     (amount-magnitude-returns-9 t)
 
 abbrev test-small-calls : ℕ → test-small-lts.Claims
-test-small-calls t = (test-kind-reads.Asked, test-kind-reads.Learnt, two-amounts-below t, two-amounts.Post, both-within-reads.Asked, both-within-reads.Learnt, two-tests-below t, two-tests.Post, test-small-below t, test-small.Post)
+test-small-calls t = (
+  test-kind-reads.Asked,
+  test-kind-reads.Learnt,
+  two-amounts-below t,
+  two-amounts.Post,
+  both-within-reads.Asked,
+  both-within-reads.Learnt,
+  two-tests-below t,
+  two-tests.Post,
+  test-small-below t,
+  test-small.Post,
+)
 
 test-small-test-kind-requires : (t : ℕ) → test-small-lts.Need-test-kind-requires (test-small-calls t) (test-small-at t) test-small.Post
 test-small-test-kind-requires t c κs =

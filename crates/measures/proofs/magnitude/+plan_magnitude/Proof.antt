@@ -39,7 +39,24 @@ plan-magnitude-below t =
     plan-magnitude.Pre
 
 abbrev plan-magnitude-calls : ℕ → plan-magnitude-lts.Claims
-plan-magnitude-calls t = (plan-kind-reads.Asked, plan-kind-reads.Learnt, amount-magnitude-reads.Asked, amount-magnitude-reads.Learnt, link-reads.Asked, link-reads.Learnt, plan-magnitude-below t, plan-magnitude.Post, product-of-reads.Asked, product-of-reads.Learnt, sum-of-reads.Asked, sum-of-reads.Learnt, test-small-reads.Asked, test-small-reads.Learnt, greater-of-reads.Asked, greater-of-reads.Learnt)
+plan-magnitude-calls t = (
+  plan-kind-reads.Asked,
+  plan-kind-reads.Learnt,
+  amount-magnitude-reads.Asked,
+  amount-magnitude-reads.Learnt,
+  link-reads.Asked,
+  link-reads.Learnt,
+  plan-magnitude-below t,
+  plan-magnitude.Post,
+  product-of-reads.Asked,
+  product-of-reads.Learnt,
+  sum-of-reads.Asked,
+  sum-of-reads.Learnt,
+  test-small-reads.Asked,
+  test-small-reads.Learnt,
+  greater-of-reads.Asked,
+  greater-of-reads.Learnt,
+)
 
 plan-magnitude-plan-kind-requires : (t : ℕ) → plan-magnitude-lts.Need-plan-kind-requires (plan-magnitude-calls t) (plan-magnitude-at t) plan-magnitude.Post
 plan-magnitude-plan-kind-requires t c κs =
@@ -195,7 +212,9 @@ plan-magnitude-plan-magnitude-requires-6 t c κs =
     (omega (arith, plans.plan-some h), rw (c .link4 .ensures) (plans.within-ready h k q .3 .1, m))
 
 plan-magnitude-greater-of-requires : (t : ℕ) → plan-magnitude-lts.Need-greater-of-requires (plan-magnitude-calls t) (plan-magnitude-at t) plan-magnitude.Post
-plan-magnitude-greater-of-requires t c κs = (laws.plan-kept _ _ (c .before .before .before .plan-magnitude5 .ensures), laws.plan-kept _ _ (c .before .plan-magnitude6 .ensures))
+plan-magnitude-greater-of-requires t c κs =
+    let plan-magnitude5-is = c .before .before .before .plan-magnitude5 .ensures in
+    (laws.plan-kept _ _ plan-magnitude5-is, laws.plan-kept _ _ (c .before .plan-magnitude6 .ensures))
 
 plan-magnitude-returns : (t : ℕ) → plan-magnitude-lts.Need-returns (plan-magnitude-calls t) (plan-magnitude-at t) plan-magnitude.Post
 plan-magnitude-returns t c =
@@ -206,7 +225,9 @@ plan-magnitude-returns t c =
     let t = c .before .before .before .before .before .before .test-small .ensures in
     let x = c .before .before .before .before .plan-magnitude5 .ensures in
     let y = c .before .before .plan-magnitude6 .ensures in
-    laws.within-magnitude b h k q t (c .before .if1 .taken) (c .before .before .before .before .before .link3 .ensures) (c .before .before .before .link4 .ensures) x y (c .greater-of .ensures)
+    let link3-is = c .before .before .before .before .before .link3 .ensures in
+    let link4-is = c .before .before .before .link4 .ensures in
+    laws.within-magnitude b h k q t (c .before .if1 .taken) link3-is link4-is x y (c .greater-of .ensures)
 
 plan-magnitude-returns-2 : (t : ℕ) → plan-magnitude-lts.Need-returns-2 (plan-magnitude-calls t) (plan-magnitude-at t) plan-magnitude.Post
 plan-magnitude-returns-2 t c =
@@ -230,7 +251,9 @@ plan-magnitude-returns-4 t c =
     let b = c .before .before .before .before .before .before .before .args .bounds .now in
     let k = c .before .before .before .before .before .before .plan-kind .ensures in
     let q = c .before .before .before .before .enum-told3 .given .1 in
-    laws.scale-magnitude b h k q (c .before .before .link .ensures) (c .before .before .before .amount-magnitude .ensures) (c .before .plan-magnitude .ensures) (c .product-of .ensures)
+    let link-is = c .before .before .link .ensures in
+    let amount-magnitude-is = c .before .before .before .amount-magnitude .ensures in
+    laws.scale-magnitude b h k q link-is amount-magnitude-is (c .before .plan-magnitude .ensures) (c .product-of .ensures)
 
 plan-magnitude-returns-5 : (t : ℕ) → plan-magnitude-lts.Need-returns-5 (plan-magnitude-calls t) (plan-magnitude-at t) plan-magnitude.Post
 plan-magnitude-returns-5 t c =
@@ -246,7 +269,9 @@ plan-magnitude-returns-6 t c =
     let b = c .before .before .before .before .before .before .before .args .bounds .now in
     let k = c .before .before .before .before .before .before .plan-kind .ensures in
     let q = c .before .before .before .before .enum-told5 .given .1 in
-    laws.both-magnitude b h k q (c .before .before .link2 .ensures) (c .before .before .before .plan-magnitude3 .ensures) (c .before .plan-magnitude4 .ensures) (c .sum-of .ensures)
+    let link2-is = c .before .before .link2 .ensures in
+    let plan-magnitude3-is = c .before .before .before .plan-magnitude3 .ensures in
+    laws.both-magnitude b h k q link2-is plan-magnitude3-is (c .before .plan-magnitude4 .ensures) (c .sum-of .ensures)
 
 plan-magnitude-returns-7 : (t : ℕ) → plan-magnitude-lts.Need-returns-7 (plan-magnitude-calls t) (plan-magnitude-at t) plan-magnitude.Post
 plan-magnitude-returns-7 t c =

@@ -32,7 +32,22 @@ plan-reads-below t =
     and 1 plan-reads-kinds.ps (falls 1 plan-reads-kinds.ps _<_ μ-plan-reads t) plan-reads.Pre
 
 abbrev plan-reads-calls : ℕ → plan-reads-lts.Claims
-plan-reads-calls t = (plan-kind-reads.Asked, plan-kind-reads.Learnt, link-reads.Asked, link-reads.Learnt, window-of-reads.Asked, window-of-reads.Learnt, rows-read-reads.Asked, rows-read-reads.Learnt, plan-reads-below t, plan-reads.Post, delay-reads.Asked, delay-reads.Learnt, later-reads.Asked, later-reads.Learnt)
+plan-reads-calls t = (
+  plan-kind-reads.Asked,
+  plan-kind-reads.Learnt,
+  link-reads.Asked,
+  link-reads.Learnt,
+  window-of-reads.Asked,
+  window-of-reads.Learnt,
+  rows-read-reads.Asked,
+  rows-read-reads.Learnt,
+  plan-reads-below t,
+  plan-reads.Post,
+  delay-reads.Asked,
+  delay-reads.Learnt,
+  later-reads.Asked,
+  later-reads.Learnt,
+)
 
 plan-reads-plan-kind-requires : (t : ℕ) → plan-reads-lts.Need-plan-kind-requires (plan-reads-calls t) (plan-reads-at t) plan-reads.Post
 plan-reads-plan-kind-requires t c κs =
@@ -217,7 +232,10 @@ plan-reads-plan-reads-requires-5 t c κs =
     let k = c .before .before .before .before .before .before .before .before .plan-kind .ensures in
     let q = c .before .before .before .before .before .before .enum-told6 .given .1 in
     let d = plans.within-ready h k q .0 in
-    let r = laws.reach-wait m (plans.plan-some h) (c .before .before .before .before .before .delay2 .ensures) d (c .before .before .before .before .later3 .ensures) (c .before .before .before .later4 .ensures) in
+    let delay2-is = c .before .before .before .before .before .delay2 .ensures in
+    let later3-is = c .before .before .before .before .later3 .ensures in
+    let later4-is = c .before .before .before .later4 .ensures in
+    let r = laws.reach-wait m (plans.plan-some h) delay2-is d later3-is later4-is in
     (omega (arith, plans.plan-some h), rw (c .before .before .link3 .ensures) (plans.within-ready h k q .2 .1, r))
 
 plan-reads-link-requires-4 : (t : ℕ) → plan-reads-lts.Need-link-requires-4 (plan-reads-calls t) (plan-reads-at t) plan-reads.Post
@@ -239,7 +257,10 @@ plan-reads-plan-reads-requires-6 t c κs =
     let k = c .before .before .before .before .before .before .before .before .before .before .plan-kind .ensures in
     let q = c .before .before .before .before .before .before .before .before .enum-told6 .given .1 in
     let d = plans.within-ready h k q .0 in
-    let r = laws.reach-later m (plans.plan-some h) (c .before .before .before .before .before .before .before .delay2 .ensures) d (c .before .before .before .before .before .before .later3 .ensures) (c .before .before .before .before .before .later4 .ensures) in
+    let delay2-is = c .before .before .before .before .before .before .before .delay2 .ensures in
+    let later3-is = c .before .before .before .before .before .before .later3 .ensures in
+    let later4-is = c .before .before .before .before .before .later4 .ensures in
+    let r = laws.reach-later m (plans.plan-some h) delay2-is d later3-is later4-is in
     (omega (arith, plans.plan-some h), rw (c .link4 .ensures) (plans.within-ready h k q .3 .1, r))
 
 plan-reads-returns : (t : ℕ) → plan-reads-lts.Need-returns (plan-reads-calls t) (plan-reads-at t) plan-reads.Post
@@ -282,16 +303,25 @@ plan-reads-returns-5 t c =
 
 plan-reads-returns-6 : (t : ℕ) → plan-reads-lts.Need-returns-6 (plan-reads-calls t) (plan-reads-at t) plan-reads.Post
 plan-reads-returns-6 t c =
-    let h = c .before .before .before .before .before .before .before .before .before .before .before .before .pre .1 .0 in
-    let m = c .before .before .before .before .before .before .before .before .before .before .before .before .pre .1 .1 in
-    let k = c .before .before .before .before .before .before .before .before .before .before .before .plan-kind .ensures in
+    let pre-1-0 = c .before .before .before .before .before .before .before .before .before .before .before .before .pre .1 .0 in
+    let h = pre-1-0 in
+    let pre-1-1 = c .before .before .before .before .before .before .before .before .before .before .before .before .pre .1 .1 in
+    let m = pre-1-1 in
+    let plan-kind-is = c .before .before .before .before .before .before .before .before .before .before .before .plan-kind .ensures in
+    let k = plan-kind-is in
     let q = c .before .before .before .before .before .before .before .before .before .enum-told6 .given .1 in
     let d = plans.within-ready h k q .0 in
-    let r = laws.reach-wait m (plans.plan-some h) (c .before .before .before .before .before .before .before .before .delay2 .ensures) d (c .before .before .before .before .before .before .before .later3 .ensures) (c .before .before .before .before .before .before .later4 .ensures) in
-    let x = rows.within-window h k (c .before .before .before .before .before .link3 .ensures) r (c .before .before .before .before .window-of2 .ensures) (c .before .before .before .rows-read2 .ensures) q in
+    let delay2-is = c .before .before .before .before .before .before .before .before .delay2 .ensures in
+    let later3-is = c .before .before .before .before .before .before .before .later3 .ensures in
+    let later4-is = c .before .before .before .before .before .before .later4 .ensures in
+    let r = laws.reach-wait m (plans.plan-some h) delay2-is d later3-is later4-is in
+    let link3-is = c .before .before .before .before .before .link3 .ensures in
+    let window-of2-is = c .before .before .before .before .window-of2 .ensures in
+    let rows-read2-is = c .before .before .before .rows-read2 .ensures in
+    let x = rows.within-window h k link3-is r window-of2-is rows-read2-is q in
     let y = c .before .before .plan-reads5 .ensures in
     let z = c .plan-reads6 .ensures in
-    laws.within-reads _ h k m (c .before .before .before .before .before .before .before .before .delay2 .ensures) (c .before .before .before .before .before .before .before .later3 .ensures) (c .before .before .before .before .before .before .later4 .ensures) q (c .before .before .before .before .before .link3 .ensures) (c .before .link4 .ensures) x y z
+    laws.within-reads _ h k m delay2-is later3-is later4-is q link3-is (c .before .link4 .ensures) x y z
 
 plan-reads-returns-7 : (t : ℕ) → plan-reads-lts.Need-returns-7 (plan-reads-calls t) (plan-reads-at t) plan-reads.Post
 plan-reads-returns-7 t c =

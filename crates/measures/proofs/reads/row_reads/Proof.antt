@@ -16,13 +16,26 @@ offset-requires c κs = search needs
 
 returns : tie.Need-returns
 returns c =
-    let low : SFits w64 (c .before .before .before .before .before .before .before .before .before .before .before .before .before .args .w .low) = search needs in
-    let high : SFits w64 (c .before .before .before .before .before .before .before .before .before .before .before .before .before .args .w .high) = search needs in
+    let the-w-low = c .before .before .before .before .before .before .before .before .before .before .before .before .before .args .w .low in
+    let low : SFits w64 the-w-low = search needs in
+    let the-w-high = c .before .before .before .before .before .before .before .before .before .before .before .before .before .args .w .high in
+    let high : SFits w64 the-w-high = search needs in
     let f : SFits w64 (c .before .before .before .before .before .before .before .before .before .offset .result .0) = search needs in
-    laws.row-index (c .before .before .before .before .before .before .before .before .before .before .before .before .before .args .w) (c .before .before .before .before .before .before .before .before .before .before .before .before .before .args .nodes .now) (c .before .before .before .before .before .before .before .before .before .before .before .before .before .args .at) (c .before .before .before .before .before .before .before .before .before .before .before .before .is-index .ensures) (c .before .before .before .before .before .before .before .before .before .before .before .if1 .taken) low high f (c .before .before .before .before .before .before .before .before .before .before .label .ensures) (c .before .before .before .before .before .before .before .before .before .offset .ensures)
+    let the-w = c .before .before .before .before .before .before .before .before .before .before .before .before .before .args .w in
+    let the-nodes = c .before .before .before .before .before .before .before .before .before .before .before .before .before .args .nodes .now in
+    let the-at = c .before .before .before .before .before .before .before .before .before .before .before .before .before .args .at in
+    let is-index-is = c .before .before .before .before .before .before .before .before .before .before .before .before .is-index .ensures in
+    let branch = c .before .before .before .before .before .before .before .before .before .before .before .if1 .taken in
+    let label-is = c .before .before .before .before .before .before .before .before .before .before .label .ensures in
+    let offset-is = c .before .before .before .before .before .before .before .before .before .offset .ensures in
+    laws.row-index the-w the-nodes the-at is-index-is branch low high f label-is offset-is
 
 returns-2 : tie.Need-returns-2
-returns-2 c = laws.row-other (c .before .before .args .w) (c .before .before .args .nodes .now) (c .before .before .args .at) (c .before .is-index .ensures) (c .if1 .left)
+returns-2 c =
+    let the-w = c .before .before .args .w in
+    let the-nodes = c .before .before .args .nodes .now in
+    let the-at = c .before .before .args .at in
+    laws.row-other the-w the-nodes the-at (c .before .is-index .ensures) (c .if1 .left)
 
 pub row-reads-spec : {M : Type 1} → statement M
 row-reads-spec =
