@@ -1,3 +1,4 @@
 -- Settings and tables as calls take them.
 pub mod Fill
 pub mod Given
+pub mod Lookup

@@ -11,6 +11,7 @@ ghost use Rattle.language.specs.Text.Number.{between};
 ghost use Rattle.tables.specs.Given.{tableOf};
 
 pub mod fill;
+pub mod lookup;
 
 // The whole numbers from low to high.
 pub struct Range {

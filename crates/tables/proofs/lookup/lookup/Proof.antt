@@ -1,0 +1,121 @@
+use Prim.Native.Nat.{_*_, _+_, _<_}
+use borrow.Author.Needs.{needs}
+use lib.IntN.{_+ℤ_, natAbs, pos}
+use lib.ListN.{getD}
+use mathlib.Core.Path.{_∙_, ap, ap₂, refl}
+use mir.Facts.{toZ-ofZ}
+use mir.Syntax.{w64}
+use mir.Val.{SFits}
+use native.Mathlib.Omega.{arith}
+use Rattle.integers.proofs.Locals.{rd}
+use Rattle.nodes.proofs.Signed.{index-cast}
+use Rattle.tables.proofs.Lookups.{few, found, from-zero, in-values, no-label, too-early, too-late}
+use Rattle.tables.proofs.lookup.lookup.Lts as lts
+use Rattle.tables.proofs.lookup.lookup.Reads as reads
+use Rattle.tables.proofs.lookup.lookup.Statement.{statement}
+use Rattle.tables.proofs.lookup.lookup.Tie as tie
+
+months-requires : tie.Need-months-requires
+months-requires c κs = c .before .pre .0 .span
+
+later-requires : tie.Need-later-requires
+later-requires c κs =
+    let s = c .before .before in
+    let a = s .args in
+    let h : SFits w64 (a .span .h) = search needs in
+    (s .pre .1, rw (toZ-ofZ h) (record { small = omega (arith, s .pre .0 .span .hTo) }))
+
+returns : tie.Need-returns
+returns c =
+    let s = c .before .before .before .before in
+    let a = s .args in
+    no-label (a .span .h) (a .span .f) (a .bounds .now) (a .values .now) (s .pre .0) (a .label) (a .month .0) (c .if1 .taken)
+
+returns-2 : tie.Need-returns-2
+returns-2 c =
+    let s = c .before .before .before .before .before .before .before in
+    let a = s .args in
+    let h : SFits w64 (a .span .h) = search needs in
+    let p = c .before .before .before .before .later in
+    let g : SFits w64 (p .result .0) = search needs in
+    let e = p .ensures ∙ ap (λ z. a .month .0 +ℤ z) (toZ-ofZ h) in
+    too-early (a .span .h) (a .span .f) (a .bounds .now) (a .values .now) (s .pre .0) (a .label) (a .month .0) (omega (arith, c .before .before .before .if1 .left)) _ e (rw (toZ-ofZ g) at (c .if2 .taken))
+
+cast-at : tie.Need-cast-at
+cast-at c =
+    let s = c .before .before .before .before .before .before .before .before .before in
+    let a = s .args in
+    let h : SFits w64 (a .span .h) = search needs in
+    let p = c .before .before .before .before .before .before .later in
+    let g : SFits w64 (p .result .0) = search needs in
+    let e = p .ensures ∙ ap (λ z. a .month .0 +ℤ z) (toZ-ofZ h) in
+    index-cast _ _ g refl (from-zero (a .span .h) (a .span .f) (a .bounds .now) (a .values .now) (s .pre .0) (a .label) (a .month .0) (omega (arith, c .before .before .before .before .before .if1 .left)) _ e (rw (toZ-ofZ g) at (c .before .before .if2 .left)))
+
+returns-3 : tie.Need-returns-3
+returns-3 c =
+    let s = c .before .before .before .before .before .before .before .before .before .before in
+    let a = s .args in
+    let h : SFits w64 (a .span .h) = search needs in
+    let p = c .before .before .before .before .before .before .before .later in
+    let g : SFits w64 (p .result .0) = search needs in
+    let e = p .ensures ∙ ap (λ z. a .month .0 +ℤ z) (toZ-ofZ h) in
+    too-late (a .span .h) (a .span .f) (a .bounds .now) (a .values .now) (s .pre .0) (a .label) (a .month .0) (omega (arith, c .before .before .before .before .before .before .if1 .left)) _ e (rw (toZ-ofZ g) at (c .before .before .before .if2 .left)) (omega (arith, c .if3 .taken, c .before .before .before .before .before .before .before .before .months .ensures, ap natAbs (toZ-ofZ g)))
+
+mul-t10 : tie.Need-mul-t10
+mul-t10 c =
+    let s = c .before .before .before .before .before .before .before .before .before .before in
+    let a = s .args in
+    let h : SFits w64 (a .span .h) = search needs in
+    let p = c .before .before .before .before .before .before .before .later in
+    let g : SFits w64 (p .result .0) = search needs in
+    let e = p .ensures ∙ ap (λ z. a .month .0 +ℤ z) (toZ-ofZ h) in
+    let d : natAbs (p .result .0) < natAbs (a .span .h) + natAbs (a .span .f) + 1 = omega (arith, c .if3 .left, c .before .before .before .before .before .before .before .before .months .ensures, ap natAbs (toZ-ofZ g)) in
+    omega (arith, few (a .span .h) (a .span .f) (a .bounds .now) (a .values .now) (s .pre .0) (a .label) (a .month .0) (omega (arith, c .before .before .before .before .before .before .if1 .left)) _ e (rw (toZ-ofZ g) at (c .before .before .before .if2 .left)) d, ap (λ z. a .label * z) (c .before .before .before .before .before .before .before .before .months .ensures))
+
+add-t12 : tie.Need-add-t12
+add-t12 c =
+    let s = c .before .before .before .before .before .before .before .before .before .before in
+    let a = s .args in
+    let h : SFits w64 (a .span .h) = search needs in
+    let p = c .before .before .before .before .before .before .before .later in
+    let g : SFits w64 (p .result .0) = search needs in
+    let e = p .ensures ∙ ap (λ z. a .month .0 +ℤ z) (toZ-ofZ h) in
+    let d : natAbs (p .result .0) < natAbs (a .span .h) + natAbs (a .span .f) + 1 = omega (arith, c .if3 .left, c .before .before .before .before .before .before .before .before .months .ensures, ap natAbs (toZ-ofZ g)) in
+    omega (arith, few (a .span .h) (a .span .f) (a .bounds .now) (a .values .now) (s .pre .0) (a .label) (a .month .0) (omega (arith, c .before .before .before .before .before .before .if1 .left)) _ e (rw (toZ-ofZ g) at (c .before .before .before .if2 .left)) d, ap (λ z. a .label * z) (c .before .before .before .before .before .before .before .before .months .ensures), ap natAbs (toZ-ofZ g))
+
+mul-t13 : tie.Need-mul-t13
+mul-t13 c =
+    let s = c .before .before .before .before .before .before .before .before .before .before in
+    let a = s .args in
+    let h : SFits w64 (a .span .h) = search needs in
+    let p = c .before .before .before .before .before .before .before .later in
+    let g : SFits w64 (p .result .0) = search needs in
+    let e = p .ensures ∙ ap (λ z. a .month .0 +ℤ z) (toZ-ofZ h) in
+    let d : natAbs (p .result .0) < natAbs (a .span .h) + natAbs (a .span .f) + 1 = omega (arith, c .if3 .left, c .before .before .before .before .before .before .before .before .months .ensures, ap natAbs (toZ-ofZ g)) in
+    omega (arith, few (a .span .h) (a .span .f) (a .bounds .now) (a .values .now) (s .pre .0) (a .label) (a .month .0) (omega (arith, c .before .before .before .before .before .before .if1 .left)) _ e (rw (toZ-ofZ g) at (c .before .before .before .if2 .left)) d, ap (λ z. a .label * z) (c .before .before .before .before .before .before .before .before .months .ensures), ap natAbs (toZ-ofZ g))
+
+shared-slice-copy-out-t15 : tie.Need-shared-slice-copy-out-t15
+shared-slice-copy-out-t15 c =
+    let s = c .before .before .before .before .before .before .before .before .before .before in
+    let a = s .args in
+    let h : SFits w64 (a .span .h) = search needs in
+    let p = c .before .before .before .before .before .before .before .later in
+    let g : SFits w64 (p .result .0) = search needs in
+    let e = p .ensures ∙ ap (λ z. a .month .0 +ℤ z) (toZ-ofZ h) in
+    let d : natAbs (p .result .0) < natAbs (a .span .h) + natAbs (a .span .f) + 1 = omega (arith, c .if3 .left, c .before .before .before .before .before .before .before .before .months .ensures, ap natAbs (toZ-ofZ g)) in
+    omega (arith, in-values (a .span .h) (a .span .f) (a .bounds .now) (a .values .now) (s .pre .0) (a .label) (a .month .0) (omega (arith, c .before .before .before .before .before .before .if1 .left)) _ e (rw (toZ-ofZ g) at (c .before .before .before .if2 .left)) d, ap (λ z. a .label * z) (c .before .before .before .before .before .before .before .before .months .ensures), ap natAbs (toZ-ofZ g))
+
+returns-4 : tie.Need-returns-4
+returns-4 c =
+    let s = c .before .before .before .before .before .before .before .before .before .before .before in
+    let a = s .args in
+    let h : SFits w64 (a .span .h) = search needs in
+    let p = c .before .before .before .before .before .before .before .before .later in
+    let g : SFits w64 (p .result .0) = search needs in
+    let e = p .ensures ∙ ap (λ z. a .month .0 +ℤ z) (toZ-ofZ h) in
+    let d : natAbs (p .result .0) < natAbs (a .span .h) + natAbs (a .span .f) + 1 = omega (arith, c .before .if3 .left, c .before .before .before .before .before .before .before .before .before .months .ensures, ap natAbs (toZ-ofZ g)) in
+    let w : SFits w64 (getD (a .values .now) (a .label * c .before .before .before .before .before .before .before .before .before .months .result + natAbs (rd (p .result .0))) (pos 0)) = search needs in
+    found (a .span .h) (a .span .f) (a .bounds .now) (a .values .now) (s .pre .0) (a .label) (a .month .0) (omega (arith, c .before .before .before .before .before .before .before .if1 .left)) _ e (rw (toZ-ofZ g) at (c .before .before .before .before .if2 .left)) d _ (toZ-ofZ w ∙ ap₂ (λ y z. getD (a .values .now) (a .label * y + natAbs z) (pos 0)) (c .before .before .before .before .before .before .before .before .before .months .ensures) (toZ-ofZ g))
+
+pub lookup-spec : {M : Type 1} → statement M
+lookup-spec = tie.close (tie.spec months-requires later-requires returns returns-2 cast-at returns-3 mul-t10 add-t12 mul-t13 shared-slice-copy-out-t15 returns-4)
