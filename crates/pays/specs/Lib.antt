@@ -1,0 +1,3 @@
+-- When a plan's payments can be worked out without checks.
+pub mod FinePlan
+pub mod Parties

@@ -1,0 +1,45 @@
+// What a `T` pays a pair.
+ghost use mathlib.Core.Path.{_≡_};
+ghost use mathlib.Core.Bool.{cond};
+ghost use Prim.Native.Nat.{_<_};
+ghost use lib.Dec.{eqb};
+ghost use lib.IntN.{pos};
+ghost use Rattle.amounts.specs.Fine.{MonthIn};
+ghost use Rattle.language.specs.Calls.{signOf};
+ghost use Rattle.nodes.specs.Table.{natOf, slotAt};
+ghost use Rattle.pays.specs.Parties.{PairIn};
+use crate::Pair;
+use integers::Month;
+use integers::Pence;
+
+// One penny from the row's first party to its second, as the pair counts it.
+pub fn penny(nodes: &[i64; 2560], at: usize, pair: Pair) -> Pence
+    requires { ⌜ (at < 512) × PairIn (pair .p) (pair .q) ⌝ }
+    ensures { λ r. ⌜ r .0 ≡ signOf (pair .p) (pair .q) (natOf (slotAt (now (nodes .entry)) at 1)) (natOf (slotAt (now (nodes .entry)) at 2)) ⌝ }
+{
+    let a = nodes::slot(nodes, at, 1);
+    let b = nodes::slot(nodes, at, 2);
+    if pair.p == pair.q {
+        return Pence(0);
+    }
+    if (a == pair.p) & (b == pair.q) {
+        return Pence(1);
+    }
+    if (a == pair.q) & (b == pair.p) {
+        return Pence(-1);
+    }
+    Pence(0)
+}
+
+// The penny in the month of the plan's root, else nothing.
+pub fn transfer(nodes: &[i64; 2560], root: Month, month: Month, pair: Pair, at: usize) -> Pence
+    requires { ⌜ (at < 512) × MonthIn (root .0) × MonthIn (month .0) × PairIn (pair .p) (pair .q) ⌝ }
+    ensures { λ r. ⌜ r .0 ≡ cond (eqb (natOf (root .0)) (natOf (month .0))) (signOf (pair .p) (pair .q) (natOf (slotAt (now (nodes .entry)) at 1)) (natOf (slotAt (now (nodes .entry)) at 2))) (pos 0) ⌝ }
+{
+    let r = root.0;
+    let m = month.0;
+    if r == m {
+        return penny(nodes, at, pair);
+    }
+    Pence(0)
+}
