@@ -1,0 +1,2 @@
+-- What the calls on payments answer.
+pub mod Answers
