@@ -1,0 +1,4 @@
+-- Laws of payoffs in the node table.
+pub mod Cuts
+pub mod Relabelled
+pub mod Texts

@@ -1,0 +1,3 @@
+-- Cutting in the node table, and what the calls on payoffs answer.
+pub mod Answers
+pub mod Cut
