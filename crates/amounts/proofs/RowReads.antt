@@ -1,5 +1,5 @@
 -- What a row gives: the place that an `O` reads, and the divisor of a `Q`.
-use Prim.Native.Nat.{_*_, _+_, _<_, _≤_}
+use Prim.Native.Nat.{_+_, _<_, _≤_}
 use lib.Dec.{T, lt→ltb}
 use lib.IntN.{_+ℤ_, natAbs, negsuc, pos, ℤ}
 use lib.ListN.{getD, length}
@@ -41,14 +41,11 @@ module _ (values : List ℤ) (m i x : ℤ) (fm : SFits w64 m) (fx : SFits w64 x)
   pub place-cast : T (nonNeg (rd (rd m +ℤ rd x))) × Fits w64 (natAbs (rd (rd m +ℤ rd x)))
   place-cast = rw reads (h .known, record { fits = omega (arith, near) })
 
-  pub place-bytes : Fits w64 (natAbs (rd (rd m +ℤ rd x)) * 8)
-  place-bytes = rw reads (record { fits = omega (arith, near) })
-
   pub place-inside : natAbs (rd (rd m +ℤ rd x)) < length values
   place-inside = rw reads (h .inside)
 
-  pub place-gives : (z : ℤ) → SFits w64 z → z ≡ getD values (natAbs (rd (rd m +ℤ rd x))) (pos 0) → rd z ≡ getD values (natAbs place) (pos 0)
-  place-gives z fz ez = toZ-ofZ fz ∙ ez ∙ ap (λ w. getD values (natAbs w) (pos 0)) reads
+  pub place-gives : getD values (natAbs (rd (rd m +ℤ rd x))) (pos 0) ≡ getD values (natAbs place) (pos 0)
+  place-gives = ap (λ w. getD values (natAbs w) (pos 0)) reads
 
 pub divisor-positive : (z : ℤ) → Divides (natOf z) → pos 0 <ℤ z
 divisor-positive (pos n) h = record { lt = lt→ltb 0 n (h .some) }

@@ -8,6 +8,7 @@ ghost use Rattle.nodes.specs.Table.{natOf, slotAt};
 ghost use Rattle.amounts.specs.Fine.{Divides, MonthIn, Reading};
 use integers::Month;
 use integers::Pence;
+use tables::lookup;
 
 // The number of an `N`.
 pub fn number(nodes: &[i64; 2560], at: usize) -> Pence
@@ -24,7 +25,7 @@ pub fn reading(nodes: &[i64; 2560], values: &[i64], month: Month, at: usize) -> 
 {
     let place = nodes::slot(nodes, at, 2);
     let i = (month.0 + place) as usize;
-    Pence(values[i])
+    lookup::value_at(values, i)
 }
 
 // An amount divided by the number of a `Q`.

@@ -1,7 +1,8 @@
 // Looking a value up.
 ghost use mathlib.Core.Path.{_≡_};
-ghost use Prim.Native.Nat.{ℕ, _+_};
-ghost use lib.IntN.{ℤ, natAbs};
+ghost use Prim.Native.Nat.{ℕ, _+_, _<_};
+ghost use lib.IntN.{ℤ, natAbs, pos};
+ghost use lib.ListN.{getD, length};
 ghost use Rattle.integers.specs.Bounded.{Small};
 ghost use Rattle.tables.specs.Lookup.{Kept, KeptSpan, foundAnswer, lookedUp, readTable};
 use crate::Span;
@@ -19,6 +20,14 @@ pub fn months(span: Span) -> usize
     ensures { λ r. ⌜ r ≡ natAbs (span .h) + natAbs (span .f) + 1 ⌝ }
 {
     span.h as usize + span.f as usize + 1
+}
+
+// The value at a place of the table: every reading of an index, by label or by resolved place, ends here.
+pub fn value_at(values: &[i64], place: usize) -> Pence
+    requires { ⌜ place < length (now values) ⌝ }
+    ensures { λ r. ⌜ r .0 ≡ getD (now (values .entry)) place (pos 0) ⌝ }
+{
+    Pence(values[place])
 }
 
 // The value of a label in a month, or outside: what reads an index by its label comes here.
@@ -39,5 +48,5 @@ pub fn lookup(values: &[i64], bounds: &[i64], span: Span, label: usize, month: M
     if n <= at {
         return Found::Outside;
     }
-    Found::Value(Pence(values[label * n + at]))
+    Found::Value(value_at(values, label * n + at))
 }

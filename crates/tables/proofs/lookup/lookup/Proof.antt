@@ -7,7 +7,6 @@ use mir.Facts.{toZ-ofZ}
 use mir.Syntax.{w64}
 use mir.Val.{SFits}
 use native.Mathlib.Omega.{arith}
-use Rattle.integers.proofs.Locals.{rd}
 use Rattle.nodes.proofs.Signed.{index-cast}
 use Rattle.tables.proofs.Lookups.{few, found, from-zero, in-values, no-label, too-early, too-late}
 use Rattle.tables.proofs.lookup.lookup.Lts as lts
@@ -61,8 +60,8 @@ returns-3 c =
     let e = p .ensures ∙ ap (λ z. a .month .0 +ℤ z) (toZ-ofZ h) in
     too-late (a .span .h) (a .span .f) (a .bounds .now) (a .values .now) (s .pre .0) (a .label) (a .month .0) (omega (arith, c .before .before .before .before .before .before .if1 .left)) _ e (rw (toZ-ofZ g) at (c .before .before .before .if2 .left)) (omega (arith, c .if3 .taken, c .before .before .before .before .before .before .before .before .months .ensures, ap natAbs (toZ-ofZ g)))
 
-mul-t10 : tie.Need-mul-t10
-mul-t10 c =
+mul-value-at : tie.Need-mul-value-at
+mul-value-at c =
     let s = c .before .before .before .before .before .before .before .before .before .before in
     let a = s .args in
     let h : SFits w64 (a .span .h) = search needs in
@@ -72,8 +71,8 @@ mul-t10 c =
     let d : natAbs (p .result .0) < natAbs (a .span .h) + natAbs (a .span .f) + 1 = omega (arith, c .if3 .left, c .before .before .before .before .before .before .before .before .months .ensures, ap natAbs (toZ-ofZ g)) in
     omega (arith, few (a .span .h) (a .span .f) (a .bounds .now) (a .values .now) (s .pre .0) (a .label) (a .month .0) (omega (arith, c .before .before .before .before .before .before .if1 .left)) _ e (rw (toZ-ofZ g) at (c .before .before .before .if2 .left)) d, ap (λ z. a .label * z) (c .before .before .before .before .before .before .before .before .months .ensures))
 
-add-t12 : tie.Need-add-t12
-add-t12 c =
+add-value-at : tie.Need-add-value-at
+add-value-at c =
     let s = c .before .before .before .before .before .before .before .before .before .before in
     let a = s .args in
     let h : SFits w64 (a .span .h) = search needs in
@@ -83,19 +82,8 @@ add-t12 c =
     let d : natAbs (p .result .0) < natAbs (a .span .h) + natAbs (a .span .f) + 1 = omega (arith, c .if3 .left, c .before .before .before .before .before .before .before .before .months .ensures, ap natAbs (toZ-ofZ g)) in
     omega (arith, few (a .span .h) (a .span .f) (a .bounds .now) (a .values .now) (s .pre .0) (a .label) (a .month .0) (omega (arith, c .before .before .before .before .before .before .if1 .left)) _ e (rw (toZ-ofZ g) at (c .before .before .before .if2 .left)) d, ap (λ z. a .label * z) (c .before .before .before .before .before .before .before .before .months .ensures), ap natAbs (toZ-ofZ g))
 
-mul-t13 : tie.Need-mul-t13
-mul-t13 c =
-    let s = c .before .before .before .before .before .before .before .before .before .before in
-    let a = s .args in
-    let h : SFits w64 (a .span .h) = search needs in
-    let p = c .before .before .before .before .before .before .before .later in
-    let g : SFits w64 (p .result .0) = search needs in
-    let e = p .ensures ∙ ap (λ z. a .month .0 +ℤ z) (toZ-ofZ h) in
-    let d : natAbs (p .result .0) < natAbs (a .span .h) + natAbs (a .span .f) + 1 = omega (arith, c .if3 .left, c .before .before .before .before .before .before .before .before .months .ensures, ap natAbs (toZ-ofZ g)) in
-    omega (arith, few (a .span .h) (a .span .f) (a .bounds .now) (a .values .now) (s .pre .0) (a .label) (a .month .0) (omega (arith, c .before .before .before .before .before .before .if1 .left)) _ e (rw (toZ-ofZ g) at (c .before .before .before .if2 .left)) d, ap (λ z. a .label * z) (c .before .before .before .before .before .before .before .before .months .ensures), ap natAbs (toZ-ofZ g))
-
-shared-slice-copy-out-t15 : tie.Need-shared-slice-copy-out-t15
-shared-slice-copy-out-t15 c =
+value-at-requires : tie.Need-value-at-requires
+value-at-requires c κs =
     let s = c .before .before .before .before .before .before .before .before .before .before in
     let a = s .args in
     let h : SFits w64 (a .span .h) = search needs in
@@ -114,8 +102,7 @@ returns-4 c =
     let g : SFits w64 (p .result .0) = search needs in
     let e = p .ensures ∙ ap (λ z. a .month .0 +ℤ z) (toZ-ofZ h) in
     let d : natAbs (p .result .0) < natAbs (a .span .h) + natAbs (a .span .f) + 1 = omega (arith, c .before .if3 .left, c .before .before .before .before .before .before .before .before .before .months .ensures, ap natAbs (toZ-ofZ g)) in
-    let w : SFits w64 (getD (a .values .now) (a .label * c .before .before .before .before .before .before .before .before .before .months .result + natAbs (rd (p .result .0))) (pos 0)) = search needs in
-    found (a .span .h) (a .span .f) (a .bounds .now) (a .values .now) (s .pre .0) (a .label) (a .month .0) (omega (arith, c .before .before .before .before .before .before .before .if1 .left)) _ e (rw (toZ-ofZ g) at (c .before .before .before .before .if2 .left)) d _ (toZ-ofZ w ∙ ap₂ (λ y z. getD (a .values .now) (a .label * y + natAbs z) (pos 0)) (c .before .before .before .before .before .before .before .before .before .months .ensures) (toZ-ofZ g))
+    found (a .span .h) (a .span .f) (a .bounds .now) (a .values .now) (s .pre .0) (a .label) (a .month .0) (omega (arith, c .before .before .before .before .before .before .before .if1 .left)) _ e (rw (toZ-ofZ g) at (c .before .before .before .before .if2 .left)) d _ (c .value-at .ensures ∙ ap₂ (λ y z. getD (a .values .now) (a .label * y + natAbs z) (pos 0)) (c .before .before .before .before .before .before .before .before .before .months .ensures) (toZ-ofZ g))
 
 pub lookup-spec : {M : Type 1} → statement M
-lookup-spec = tie.close (tie.spec months-requires later-requires returns returns-2 cast-at returns-3 mul-t10 add-t12 mul-t13 shared-slice-copy-out-t15 returns-4)
+lookup-spec = tie.close (tie.spec months-requires later-requires returns returns-2 cast-at returns-3 mul-value-at add-value-at value-at-requires returns-4)
