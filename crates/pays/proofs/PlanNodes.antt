@@ -44,12 +44,12 @@ pub record PlanNode (values nodes : List ℤ) (sg : Sign) (r m left at : ℕ) (l
 less-one : (n : ℕ) → suc n - 1 ≡ n
 less-one n = omega arith
 
-plan-tree : (nodes : List ℤ) (left at : ℕ) → PlanStands left nodes at → planAt natOf left nodes at ≡ planOf nodes left at (planLetter (slotAt nodes at 0))
+pub plan-tree : (nodes : List ℤ) (left at : ℕ) → PlanStands left nodes at → planAt natOf left nodes at ≡ planOf nodes left at (planLetter (slotAt nodes at 0))
 unfolding planAt PlanStands
 plan-tree nodes zero at s = absurd s
 plan-tree nodes (suc left) at s = rw (less-one left)
 
-plan-asks : (nodes : List ℤ) (left at : ℕ) → PlanStands left nodes at → (0 < left) × (at < maxNodes) × planStandsBy nodes left at (planLetter (slotAt nodes at 0))
+pub plan-asks : (nodes : List ℤ) (left at : ℕ) → PlanStands left nodes at → (0 < left) × (at < maxNodes) × planStandsBy nodes left at (planLetter (slotAt nodes at 0))
 unfolding PlanStands
 plan-asks nodes zero at s = absurd s
 plan-asks nodes (suc left) at s = rw (less-one left) (omega arith, s .0, s .1)

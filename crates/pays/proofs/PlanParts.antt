@@ -36,7 +36,7 @@ month-small h = record { small = omega (arith, h .within) }
 pub delay-small : {z : ℤ} (r : ℕ) {d : ℕ} → z ≡ pos d → r + d ≤ maxMonths → Small z
 delay-small r e h = rw e (record { small = omega arith })
 
-month-in : (z : ℤ) → T (nonNeg z) → natOf z ≤ maxMonths → MonthIn z
+pub month-in : (z : ℤ) → T (nonNeg z) → natOf z ≤ maxMonths → MonthIn z
 month-in z h l = record { known = h; within = omega (arith, natOf-known z h, l) }
 
 -- the month d months after the month z

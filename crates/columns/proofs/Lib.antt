@@ -1,0 +1,5 @@
+-- Laws about columns.
+pub mod ColumnNodes
+pub mod Pennies
+pub mod Sizes
+pub mod Weights

@@ -1,0 +1,2 @@
+-- Columns: what a plan pays in each month.
+pub mod Column
