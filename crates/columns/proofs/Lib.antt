@@ -1,4 +1,5 @@
 -- Laws about columns.
+pub mod BackSums
 pub mod ColumnNodes
 pub mod Pennies
 pub mod Sizes

@@ -19,6 +19,8 @@ use nodes::PlanLetter;
 use pays::Pair;
 use pays::rows;
 
+pub mod remaining;
+
 // The penny of a `T`, times the weight, added in the month of its root.
 pub fn add_penny(
     nodes: &[i64; 2560],
