@@ -33,10 +33,10 @@ module _ (factors column : List ℤ) where
       ∙ sum-split 1 (months - suc m) (λ j. dueIn factors column (m + j))
       ∙ ap₂ _+ℤ_ (one m) (sum-cong (months - suc m) _ _ (λ j l. let k : m + (1 + j) ≡ suc m + j = omega arith in ap (dueIn factors column) k))
 
-  pub due-fits : SumsFit factors column → (m : ℕ) → SmallValue (dueIn factors column m)
-  due-fits s m =
+  pub due-fits : {months : ℕ} → SumsFit factors column months → (m : ℕ) → m < months → SmallValue (dueIn factors column m)
+  due-fits s m h =
       let e : suc m - m ≡ 1 = omega arith in
-      rw (ap (λ n. sumOver n (λ j. dueIn factors column (m + j))) e ∙ one m) at (s .fit (suc m) m)
+      rw (ap (λ n. sumOver n (λ j. dueIn factors column (m + j))) e ∙ one m) at (s .fit (suc m) m (omega arith))
 
   -- the months from m on are done
   pub record Backed (months : ℕ) (before rest : List ℤ) (sum : ℤ) (m : ℕ) : Type 0 where
@@ -55,8 +55,8 @@ module _ (factors column : List ℤ) where
         let e : suc (m - 1) ≡ m = omega arith in
         en ∙ ap₂ _+ℤ_ ed (b .is ∙ ap (restFrom factors column months) (sym e)) ∙ sym (rest-first months (m - 1) (omega (arith, b .inside)))
 
-    pub sum-in : SumsFit factors column → {due : ℤ} → due ≡ dueIn factors column (m - 1) → SmallValue (due +ℤ sum)
-    sum-in s {due} ed = rw (grown {due = due} ed refl) (s .fit months (m - 1))
+    pub sum-in : SumsFit factors column months → {due : ℤ} → due ≡ dueIn factors column (m - 1) → SmallValue (due +ℤ sum)
+    sum-in s {due} ed = rw (grown {due = due} ed refl) (s .fit months (m - 1) (omega arith))
 
     pub backed-next : months ≤ length before → {next due : ℤ} → due ≡ dueIn factors column (m - 1) → next ≡ due +ℤ sum → {x : ℤ} → x ≡ next
         → Backed months before (set rest (m - 1) x) next (m - 1)

@@ -1,5 +1,5 @@
 -- What is left of a column from a month on.
-use Prim.Native.Nat.{_+_, _-_, ℕ}
+use Prim.Native.Nat.{_+_, _-_, _≤_, ℕ}
 use lib.IntN.{_*ℤ_, pos, ℤ}
 use lib.ListN.{getD}
 use mathlib.Core.List.{List}
@@ -15,6 +15,6 @@ module _ (factors column : List ℤ) where
   abbrev pub restFrom : ℕ → ℕ → ℤ
   restFrom months m = sumOver (months - m) (λ j. dueIn (m + j))
 
-  -- every such sum is in range
-  pub record SumsFit : Type 0 where
-    pub fit : (months m : ℕ) → SmallValue (restFrom months m)
+  -- every such sum in the first months is in range
+  pub record SumsFit (months : ℕ) : Type 0 where
+    pub fit : (b a : ℕ) → b ≤ months → SmallValue (restFrom b a)

@@ -20,7 +20,7 @@ pub fn due_in(factors: &[i64], column: &[i64], m: usize) -> Millionths
 
 // For each of the first months, what it and those behind it are worth.
 pub fn add_back(factors: &[i64], column: &[i64], rest: &mut [i64], months: usize)
-    requires { ⌜ (months ≤ length (now factors)) × (months ≤ length (now column)) × (months ≤ length (now rest)) × SumsFit (now factors) (now column) ⌝ }
+    requires { ⌜ (months ≤ length (now factors)) × (months ≤ length (now column)) × (months ≤ length (now rest)) × SumsFit (now factors) (now column) months ⌝ }
     ensures { λ r. ⌜ ((m : ℕ) → m < months → getD (now (rest .exit)) m (pos 0) ≡ restFrom (now (factors .entry)) (now (column .entry)) months m) ⌝ }
 {
     let mut sum = Millionths(0);

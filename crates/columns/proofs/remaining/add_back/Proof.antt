@@ -25,7 +25,7 @@ due-in-requires : tie.Need-due-in-requires Inv-loop μ-loop
 due-in-requires c κs =
     let s = c .before .before in
     let i = c .before .loop .inv in
-    (omega (arith, i .inside, c .loop-test .taken, s .pre .0), omega (arith, i .inside, c .loop-test .taken, s .pre .1), due-fits _ _ (s .pre .3) _)
+    (omega (arith, i .inside, c .loop-test .taken, s .pre .0), omega (arith, i .inside, c .loop-test .taken, s .pre .1), due-fits _ _ (s .pre .3) _ (omega (arith, i .inside, c .loop-test .taken)))
 
 value-plus-requires : tie.Need-value-plus-requires Inv-loop μ-loop
 value-plus-requires c κs =
