@@ -8,7 +8,7 @@ ghost use Rattle.text.specs.ReadInto.{CountIs, ReadInto};
 
 mod fields;
 mod letters;
-mod numbers;
+pub mod numbers;
 mod settings;
 mod slots;
 mod trees;

@@ -7,7 +7,7 @@ ghost use Rattle.writer.specs.Put.{Put};
 ghost use Rattle.writer.specs.Shapes.{restText};
 ghost use Rattle.writer.specs.Written.{written};
 
-mod digits;
+pub mod digits;
 mod fields;
 mod rows;
 

@@ -1,0 +1,4 @@
+// A sheet's lines, read into lent lists of numbers.
+pub mod ends;
+pub mod numbers;
+pub mod words;
