@@ -53,8 +53,7 @@ module _ (t : Table) (ok : tableOk t ≡ true) where
     sized nothing r e h g s = tt
     sized (transfer p q) r e h g s = tt
     sized (scale a x) r e h g s =
-        let v = flat-value t ok r a (h .0) in
-        (
+        let v = flat-value t ok r a (h .0) in (
           flat-fine t ok r (omega arith) offsetInForm a (h .0) (g .0) (s .0),
           rw v (record { small = le-trans (amount-size a r) (top-amount (λ a. magnitudeOfAmount (boundAt t) a ≤ maxAmount) a (s .0)) }),
           rw (v, placed-magnitude (placeIn t) (boundAt t) maxAmount a) (amount-size a r),

@@ -33,7 +33,6 @@ use Rattle.nodes.specs.declared.PlanLetter.{PlanLetter}
 use Rattle.pays.proofs.PlanNodes.{plan-asks, plan-tree, planOf, planStandsBy}
 use Rattle.pays.proofs.PlanParts.{month-in}
 
-
 pub record ColumnNode (values nodes column : List ℤ) (r : ℕ) (w : ℤ) (left at : ℕ) (l : PlanLetter) : Type 0 where
   pub some : 0 < left
   pub inside : at < maxNodes

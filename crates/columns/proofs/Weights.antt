@@ -104,10 +104,12 @@ module _ {values : List ℤ} {r : ℕ} {w : ℤ} {column : List ℤ} where
 
       pub both-adds : {after : List ℤ} → Added mid after w (pays (flat values) sg y r) → Added column after w (pays (flat values) sg (both x y) r)
       unfolding pays
-      both-adds {after} b = record { each = λ m l.
-        b .each m (omega (arith, e)) ∙ ap (λ z. z +ℤ w *ℤ pays (flat values) sg y r m) (d .each m l)
-        ∙ ring (var (getD column m (pos 0)) ⊕ var (w *ℤ pays (flat values) sg x r m) ⊕ var (w *ℤ pays (flat values) sg y r m)) (var (getD column m (pos 0)) ⊕ (var (w *ℤ pays (flat values) sg x r m) ⊕ var (w *ℤ pays (flat values) sg y r m))) (omega arith)
-        ∙ ap (λ z. getD column m (pos 0) +ℤ z) (sym (*ℤ-add w (pays (flat values) sg x r m) (pays (flat values) sg y r m))) }
+      both-adds {after} b = record {
+        each = λ m l.
+            b .each m (omega (arith, e)) ∙ ap (λ z. z +ℤ w *ℤ pays (flat values) sg y r m) (d .each m l)
+            ∙ ring (var (getD column m (pos 0)) ⊕ var (w *ℤ pays (flat values) sg x r m) ⊕ var (w *ℤ pays (flat values) sg y r m)) (var (getD column m (pos 0)) ⊕ (var (w *ℤ pays (flat values) sg x r m) ⊕ var (w *ℤ pays (flat values) sg y r m))) (omega arith)
+            ∙ ap (λ z. getD column m (pos 0) +ℤ z) (sym (*ℤ-add w (pays (flat values) sg x r m) (pays (flat values) sg y r m)));
+      }
 
   -- ---- L
   pub later-weighed : {d : ℕ} {x : Plan ℕ} → Weighed values (later d x) r w column → (r + d ≤ maxMonths) × Weighed values x (r + d) w column

@@ -96,10 +96,10 @@ module _ (c : ℕ) where
   empty-first [] A n e = absurd (n refl)
   empty-first (m ∷ ls) A n e = rw e refl
 
-some-field : (l : List ℕ) → splitAt 10 l ≡ [] → ⊥
+pub some-field : (sep : ℕ) (l : List ℕ) → splitAt sep l ≡ [] → ⊥
 unfolding splitAt
-some-field [] e = let z : _≡_ {A = ℕ} 1 0 = ap length e in omega arith
-some-field (c ∷ cs) e = go (eqb c 10) (splitAt 10 cs) e
+some-field sep [] e = let z : _≡_ {A = ℕ} 1 0 = ap length e in omega arith
+some-field sep (c ∷ cs) e = go (eqb c sep) (splitAt sep cs) e
   where
     go : (b : Bool) (X : List (List ℕ)) → cond b ([] ∷ X) (inFront c X) ≡ [] → ⊥
     go true X e = let z : _≡_ {A = ℕ} (suc (length X)) 0 = ap length e in omega arith
@@ -126,7 +126,7 @@ lines-ended (c ∷ d ∷ r) =
   where
     go : (b t : Bool) → linesOf (splitAt 10 (d ∷ r)) ≡ cond t (got (linesIn (d ∷ r))) (refused 2)
         → linesOf (cond b ([] ∷ splitAt 10 (d ∷ r)) (inFront c (splitAt 10 (d ∷ r)))) ≡ cond t (got (cond b ([] ∷ linesIn (d ∷ r)) (inFront c (linesIn (d ∷ r))))) (refused 2)
-    go true true e = empty-first c (splitAt 10 (d ∷ r)) (got (linesIn (d ∷ r))) (some-field (d ∷ r)) e
-    go true false e = empty-first c (splitAt 10 (d ∷ r)) (refused 2) (some-field (d ∷ r)) e
+    go true true e = empty-first c (splitAt 10 (d ∷ r)) (got (linesIn (d ∷ r))) (some-field 10 (d ∷ r)) e
+    go true false e = empty-first c (splitAt 10 (d ∷ r)) (refused 2) (some-field 10 (d ∷ r)) e
     go false true e = longer c (splitAt 10 (d ∷ r)) (linesIn (d ∷ r)) (some-line d r) e
     go false false e = still-refused c (splitAt 10 (d ∷ r)) e

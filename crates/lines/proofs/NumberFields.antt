@@ -45,7 +45,7 @@ no-numbers line place h = ap numbers (from-behind line place h)
 -- ---- all of them
 
 -- a number behind those that are there
-take-next : (l : List ℤ) (k : ℕ) (v : ℤ) → k < length l → take (suc k) (set l k v) ≡ take k l ++ (v ∷ [])
+pub take-next : (l : List ℤ) (k : ℕ) (v : ℤ) → k < length l → take (suc k) (set l k v) ≡ take k l ++ (v ∷ [])
 take-next [] k v h = absurd (omega arith)
 take-next (x ∷ xs) zero v h = refl
 take-next (x ∷ xs) (suc k) v h = ap (λ l. x ∷ l) (take-next xs k v (omega arith))
@@ -144,6 +144,8 @@ module _ (line : List ℕ) (at : ℕ) where
         both-there {b} {stop} t {x} {y} ex ey = record {
           is = number-is line at h s ∙ rw (number-is line (end + 1) i t, ex, ey) (go (numbers (fieldsFrom line (stop + 1))));
           inside = omega (arith, number-inside line (end + 1) i t .1);
+          firstSmall = rw ex (s .small);
+          secondSmall = rw ey (t .small);
         }
           where
             go : (A : Answer (List ℤ)) → ((A >>= λ more. got (b ∷ more)) >>= λ more. got (a ∷ more)) ≡ (A >>= λ more. got (a ∷ b ∷ more))

@@ -1,10 +1,11 @@
 -- What an answer of the code about a line's numbers means.
 use Prim.Native.Nat.{_+_, _≤_, ℕ}
-use lib.IntN.{ℤ}
+use lib.IntN.{natAbs, ℤ}
 use lib.ListN.{length, take}
 use mathlib.Core.List.{List, [], _++_, _∷_}
 use mathlib.Core.Path.{_≡_}
 use Rattle.language.specs.Answer.{Answer, _>>=_, got, refused}
+use Rattle.language.specs.Limits.{maxAmount}
 use Rattle.language.specs.Sheet.{numbers}
 use Rattle.lines.specs.declared.numbers.Numbers.{Numbers}
 use Rattle.lines.specs.declared.numbers.Numbers.the-variants as answer
@@ -34,6 +35,8 @@ Short (got (a ∷ b ∷ r)) = ⊥
 pub record First (line : List ℕ) (at : ℕ) (first second : ℤ) (next : ℕ) : Type 0 where
   pub is : numbers (fieldsFrom line at) ≡ (numbers (fieldsFrom line next) >>= λ more. got (first ∷ second ∷ more))
   pub inside : next ≤ length line + 1
+  pub firstSmall : natAbs first ≤ maxAmount
+  pub secondSmall : natAbs second ≤ maxAmount
 
 abbrev pub TwoAre : List ℕ → ℕ → Two → Type 0
 TwoAre line at (two.Are a b next) = First line at a b next

@@ -14,7 +14,7 @@ pub enum Numbers {
 
 // The numbers of the fields from a byte on, as many as there is room for written from place `from` on.
 pub fn read_numbers(line: &[u8], at: usize, into: &mut [i64], from: usize) -> Numbers
-    requires { ⌜ (at ≤ length (now line) + 1) × (from ≤ 60_000) × (length (now line) ≤ 60_000) ⌝ }
+    requires { ⌜ (at ≤ length (now line) + 1) × (from ≤ 60_001) × (length (now line) ≤ 60_000) ⌝ }
     ensures { λ r. ⌜ NumbersAre (now (line .entry)) at (now (into .entry)) (now (into .exit)) from r ⌝ }
 {
     let mut place = at;
