@@ -8,7 +8,7 @@ ghost use Rattle.writer.specs.Shapes.{restText};
 ghost use Rattle.writer.specs.Written.{written};
 
 pub mod digits;
-mod fields;
+pub mod fields;
 mod rows;
 
 pub enum Written {

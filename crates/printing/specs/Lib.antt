@@ -1,0 +1,2 @@
+-- The answer of a sheet as text.
+pub mod Lines
