@@ -2,18 +2,18 @@
 use Prim.Native.Nat.{_<_, ℕ}
 use lib.IntN.{pos, ℤ}
 use mathlib.Core.List.{List, [], _++_, _∷_}
-use mathlib.Core.Path.{_∙_, _≡_, ap, refl, sym}
-use Rattle.copies.proofs.Becoming.{Becomes, TreesBecome, end-becomes, node-becomes, row-becomes, row-kept}
+use mathlib.Core.Path.{_≡_, refl}
+use Rattle.copies.proofs.Becoming.{TreesBecome, end-becomes, node-becomes, row-becomes, row-kept}
 use Rattle.copies.specs.Copied.{copyRow}
 use Rattle.copies.specs.Plain.{plainRows}
 use Rattle.language.specs.Limits.{maxLabels}
 use Rattle.language.specs.Text.Classes.{Field, aNumber}
 use Rattle.language.specs.Text.Form.{fieldsOfAmount, fieldsOfTest}
-use Rattle.language.specs.Text.Letters.{AmountLetter, Form, PlanLetter, TestLetter, amountRow, ofAmount, ofTest, planForm, rowOf, testRow}
-use Rattle.language.specs.Text.Reader.{Trees, end, node}
+use Rattle.language.specs.Text.Letters.{AmountLetter, Form, PlanLetter, TestLetter, amountRow, ofAmount, ofTest, rowOf, testRow}
+use Rattle.language.specs.Text.Reader.{Trees, end}
 use Rattle.language.specs.Text.Trees.{Amount, Test, choose, conjunction, difference, disjunction, equal, index, less, negation, number, product, quotient, sum}
 use Rattle.language.specs.Text.Typed.{amountTree, testTree}
-use Rattle.nodes.specs.Rows.{countOf, fieldSlots, lastSlots, rows, slotsOf}
+use Rattle.nodes.specs.Rows.{fieldSlots, lastSlots, rows, slotsOf}
 
 -- a change that leaves all but the indexes as they are
 pub record Keeps {M N : Type 0} (onAmount : Amount M → Amount N) (onTest : Test M → Test N) : Type 0 where

@@ -1,16 +1,16 @@
 -- What rows become that are each changed: the rows of trees become the plain rows of other trees.
 use Prim.Native.Nat.{_*_, _+_, _-_, suc, ℕ}
 use lib.IntN.{pos, ℤ}
-use lib.ListN.{drop, getD, length, take}
+use lib.ListN.{drop, getD, length}
 use lib.Seq.{drop-at, take-at}
 use mathlib.Core.Bool.{false}
 use mathlib.Core.List.{List, [], _++_, _∷_, append-assoc, append-nil}
-use mathlib.Core.Path.{_∙_, _≡_, ap, ap₂, refl, sym}
-use native.Mathlib.Nat.{add-zero}
+use mathlib.Core.Path.{_∙_, _≡_, ap, ap₂, sym}
 use native.Mathlib.Omega.{arith}
+use Rattle.copies.proofs.Shapes.{plain-last}
 use Rattle.copies.specs.Copied.{changedRows, copyRow}
 use Rattle.copies.specs.Lies.{Lies}
-use Rattle.copies.specs.Plain.{plainLast, plainRow, plainRows}
+use Rattle.copies.specs.Plain.{plainRow, plainRows}
 use Rattle.integers.specs.Equal.{eqZ}
 use Rattle.language.specs.Text.Classes.{Field}
 use Rattle.language.specs.Text.Letters.{Form, Letter, PlanLetter, planForm, rowOf}
@@ -72,11 +72,6 @@ module _ (f : List ℤ → List ℤ) where
         ap₂ (changedRows f) n (l .is) ∙ b .is .becomes 0 (l .rest) ∙ append-nil (plainRows form u)
 
 -- ---- a row that is no `O` keeps its letter and its fields
-
-plain-last : {Q : Type 0} (slots : List ℤ) (c : Trees Q) → getD slots 2 (pos 0) ≡ pos 0 → getD slots 3 (pos 0) ≡ pos 0 → plainLast slots c ≡ pos 0 ∷ pos 0 ∷ []
-unfolding plainLast
-plain-last slots end e h = ap₂ (λ x y. x ∷ y ∷ []) e h
-plain-last slots (node l fs c t) e h = refl
 
 pub row-kept : {P Q : Type 0} (index : ℤ → ℤ → List ℤ) (letter : ℕ) (slots : List ℤ) (c : Trees P) (d : Trees Q) → eqZ (pos letter) (pos (byte "O")) ≡ false
     → getD slots 2 (pos 0) ≡ pos 0 → getD slots 3 (pos 0) ≡ pos 0 → copyRow index (rowFor letter slots c) ≡ plainRow letter slots d

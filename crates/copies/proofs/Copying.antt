@@ -5,7 +5,7 @@ use lib.ListN.{drop, getD, length, take}
 use lib.Seq.{drop-drop, getD-drop, getD-take}
 use mathlib.Core.Bool.{Bool, cond, false, true}
 use mathlib.Core.List.{List, [], _++_, _∷_, append-assoc, append-nil}
-use mathlib.Core.Path.{_∙_, _≡_, ap, ap₂, refl, sym}
+use mathlib.Core.Path.{_∙_, _≡_, ap, refl, sym}
 use native.Mathlib.Omega.{arith}
 use Rattle.copies.proofs.Appending.{appended-as, appended-none, appended-then}
 use Rattle.copies.specs.Appended.{Appended}

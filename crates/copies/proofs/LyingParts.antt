@@ -1,5 +1,5 @@
 -- The children of a node that lies in the table: each lies from one of the node's places up to the next.
-use Prim.Native.Nat.{_*_, _+_, ℕ}
+use Prim.Native.Nat.{_+_, ℕ}
 use lib.IntN.{pos, ℤ}
 use mathlib.Core.List.{List, [], _++_, append-assoc, append-nil}
 use mathlib.Core.Path.{_∙_, _≡_, ap, refl, subst, sym}

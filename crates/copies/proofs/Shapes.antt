@@ -1,8 +1,9 @@
 -- The tree of an amount, a test, a plan or a payoff is one node in front of others.
-use lib.IntN.{ℤ}
-use mathlib.Core.List.{List, [], _++_, append-assoc, append-nil}
-use mathlib.Core.Path.{_∙_, _≡_, ap, refl, sym}
-use Rattle.copies.specs.Plain.{plainRow, plainRows}
+use lib.IntN.{pos, ℤ}
+use lib.ListN.{getD}
+use mathlib.Core.List.{List, [], _++_, _∷_, append-assoc, append-nil}
+use mathlib.Core.Path.{_∙_, _≡_, ap, ap₂, refl, sym}
+use Rattle.copies.specs.Plain.{plainLast, plainRow, plainRows}
 use Rattle.language.specs.Text.Classes.{Field}
 use Rattle.language.specs.Text.Letters.{Form, Letter, PayoffLetter, PlanLetter, rowOf}
 use Rattle.language.specs.Text.Plans.{Written, payoffTrees, planTrees}
@@ -31,6 +32,22 @@ module _ {P : Type 0} where
   -- its rows, then those of the others
   pub plain-apart : {tree : Trees P → Trees P} → Shape tree → (form : Form P) (r : Trees P) → plainRows form (tree r) ≡ plainRows form (tree end) ++ plainRows form r
   plain-apart s form r = rw (s .is r, s .is end) (apart form (s .letter) (s .fields) (s .below) r)
+
+  -- ---- a node with children
+
+  -- it has at most two numbers for its fields
+  pub plain-last : (slots : List ℤ) (c : Trees P) → getD slots 2 (pos 0) ≡ pos 0 → getD slots 3 (pos 0) ≡ pos 0 → plainLast slots c ≡ pos 0 ∷ pos 0 ∷ []
+  unfolding plainLast
+  plain-last slots end e h = ap₂ (λ x y. x ∷ y ∷ []) e h
+  plain-last slots (node l fs c t) e h = refl
+
+  -- its own row, then those below it
+  pub inner-rows : (form : Form P) (l : Letter P) (fs : List Field) (c : Trees P) → getD (slotsOf fs) 2 (pos 0) ≡ pos 0 → getD (slotsOf fs) 3 (pos 0) ≡ pos 0
+      → plainRows form (node l fs c end) ≡ (pos (rowOf form l .letter) ∷ getD (slotsOf fs) 0 (pos 0) ∷ getD (slotsOf fs) 1 (pos 0) ∷ pos 0 ∷ pos 0 ∷ []) ++ plainRows form c
+  unfolding plainRows
+  inner-rows form l fs c e h = rw (plain-last (slotsOf fs) c e h, append-nil (plainRows form c)) refl
+
+  -- ---- shapes
 
   module _ {M : Type 0} (when : M → Field) where
     pub amount-shape : (a : Amount M) → Shape (amountTree when a)

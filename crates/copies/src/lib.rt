@@ -1,6 +1,6 @@
 // Rows appended to a table.
-ghost use Prim.Native.Nat.{ℕ, _*_, _+_, _<_, _≤_};
-ghost use lib.IntN.{ℤ, pos};
+ghost use Prim.Native.Nat.{_*_, _+_, _<_, _≤_};
+ghost use lib.IntN.{pos};
 ghost use lib.ListN.{length};
 ghost use mathlib.Core.List.{[], _∷_};
 ghost use Rattle.copies.specs.Appended.{Appended};

@@ -6,10 +6,6 @@ use mir.Val.{SFits}
 use Rattle.copies.proofs.Appending.{appended-as, row-of}
 use Rattle.copies.proofs.copy_row.Statement.{statement}
 use Rattle.copies.proofs.copy_row.Tie as tie
-use Rattle.copies.proofs.copy_row.Reads as reads
-use Rattle.copies.proofs.copy_row.Lts as lts
-use Rattle.copies.proofs.put_row.Reads as put-row-reads
-use Rattle.nodes.proofs.slot.Reads as slot-reads
 
 slot-requires : tie.Need-slot-requires
 slot-requires c κs = search needs

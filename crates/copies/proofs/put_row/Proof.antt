@@ -9,8 +9,6 @@ use native.Mathlib.Omega.{arith}
 use Rattle.copies.proofs.Appending.{appended-row}
 use Rattle.copies.proofs.put_row.Statement.{statement}
 use Rattle.copies.proofs.put_row.Tie as tie
-use Rattle.copies.proofs.put_row.Reads as reads
-use Rattle.copies.proofs.put_row.Lts as lts
 
 mul-letter : tie.Need-mul-letter
 mul-letter c = search needs
