@@ -29,6 +29,22 @@ pub record Keeps {M N : Type 0} (onAmount : Amount M → Amount N) (onTest : Tes
   pub of-disjunction : (s t : Test M) → onTest (disjunction s t) ≡ disjunction (onTest s) (onTest t)
   pub of-negation : (t : Test M) → onTest (negation t) ≡ negation (onTest t)
 
+-- no change at all
+pub same-keeps : Keeps {M = ℤ} (λ a. a) (λ t. t)
+same-keeps = record {
+  of-number = λ n. refl;
+  of-sum = λ a b. refl;
+  of-difference = λ a b. refl;
+  of-product = λ a b. refl;
+  of-quotient = λ n a. refl;
+  of-choose = λ t a b. refl;
+  of-less = λ a b. refl;
+  of-equal = λ a b. refl;
+  of-conjunction = λ s t. refl;
+  of-disjunction = λ s t. refl;
+  of-negation = λ t. refl;
+}
+
 -- the table has the amount as `inTable` makes it, an index of label l and offset i with the second field `field l i`; written is what `written` makes of it
 module _ {Q N : Type 0} (form : Form Q) (when : N → Field) (row : ℤ → ℤ → List ℤ) (good : ℤ → Type 0)
     (inTable : Amount ℤ → Amount ℤ) (inTableTest : Test ℤ → Test ℤ) (src : Keeps inTable inTableTest)

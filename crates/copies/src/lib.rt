@@ -32,6 +32,24 @@ pub fn put_row(out: &mut [i64], count: usize, row: Row) -> usize
     count + 1
 }
 
+// The row of a letter without fields.
+pub fn put_letter(out: &mut [i64], count: usize, letter: i64) -> usize
+    requires { ⌜ 5 * count + 5 ≤ length (now out) ⌝ }
+    ensures { λ r. ⌜ Appended (now (out .entry)) (now (out .exit)) count r (letter ∷ pos 0 ∷ pos 0 ∷ pos 0 ∷ pos 0 ∷ []) ⌝ }
+{
+    put_row(
+        out,
+        count,
+        Row {
+            letter,
+            a: 0,
+            b: 0,
+            c: 0,
+            d: 0,
+        },
+    )
+}
+
 // A row of a plan as it stands, without its links.
 pub fn copy_row(nodes: &[i64; 2560], out: &mut [i64], count: usize, at: usize) -> usize
     requires { ⌜ (at < 512) × (5 * count + 5 ≤ length (now out)) ⌝ }

@@ -23,21 +23,6 @@ placed-keeps place = record {
   of-negation = λ t. refl;
 }
 
-pub same-keeps : Keeps {M = ℤ} (λ a. a) (λ t. t)
-same-keeps = record {
-  of-number = λ n. refl;
-  of-sum = λ a b. refl;
-  of-difference = λ a b. refl;
-  of-product = λ a b. refl;
-  of-quotient = λ n a. refl;
-  of-choose = λ t a b. refl;
-  of-less = λ a b. refl;
-  of-equal = λ a b. refl;
-  of-conjunction = λ s t. refl;
-  of-disjunction = λ s t. refl;
-  of-negation = λ t. refl;
-}
-
 pub step-keeps : (idx : Lookup) (r : ℕ) → Keeps (stepAmount idx r) (stepTest idx r)
 unfolding stepAmount stepTest
 step-keeps idx r = record {

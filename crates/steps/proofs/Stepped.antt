@@ -7,7 +7,7 @@ use mathlib.Core.Bool.{Bool, cond, false, true}
 use mathlib.Core.List.{List, [], _++_, _∷_}
 use mathlib.Core.Path.{_≡_, refl}
 use Rattle.amounts.specs.Placed.{placedAmount, placedPlan, placedTest}
-use Rattle.copies.proofs.AmountsCopied.{amount-becomes, test-becomes}
+use Rattle.copies.proofs.AmountsCopied.{amount-becomes, same-keeps, test-becomes}
 use Rattle.copies.proofs.Becoming.{TreesBecome, end-becomes, lying-becomes, node-becomes, row-kept}
 use Rattle.copies.specs.Copied.{changedRows}
 use Rattle.copies.specs.Lies.{Lies}
@@ -26,7 +26,7 @@ use Rattle.language.specs.Text.Trees.{Amount, Plan, Test, both, index, later, m
 use Rattle.language.specs.Text.Typed.{amountTree, testTree}
 use Rattle.nodes.specs.Rows.{delaySlot, fieldSlots, slotsOf}
 use Rattle.places.specs.Place.{SpanIn, placeOf}
-use Rattle.steps.proofs.Changes.{placed-keeps, same-keeps, step-keeps}
+use Rattle.steps.proofs.Changes.{placed-keeps, step-keeps}
 use Rattle.steps.proofs.Restored.{offset-back}
 use Rattle.steps.specs.Offsets.{restorePlaced, restoreRow, stepPlaced, stepRow, steppedIndex}
 use Rattle.tables.specs.Lookup.{readTable}

@@ -111,11 +111,11 @@ pub fn step_plan(
 {
     let letter = node::plan_kind(nodes, at);
     match letter {
-        PlanLetter::Nothing => rows::put_letter(out, count, 90),
-        PlanLetter::Transfer => rows::put_letter(out, count, 90),
+        PlanLetter::Nothing => copies::put_letter(out, count, 90),
+        PlanLetter::Transfer => copies::put_letter(out, count, 90),
         PlanLetter::Scale => {
             let second = nodes::link(nodes, at, 3);
-            let a = rows::put_letter(out, count, 83);
+            let a = copies::put_letter(out, count, 83);
             let b = step_rows(nodes, values, bounds, span, today, out, a, at + 1, second);
             step_plan(
                 nodes,
@@ -150,7 +150,7 @@ pub fn step_plan(
         }
         PlanLetter::Both => {
             let second = nodes::link(nodes, at, 3);
-            let a = rows::put_letter(out, count, 66);
+            let a = copies::put_letter(out, count, 66);
             let b = step_plan(
                 nodes,
                 values,

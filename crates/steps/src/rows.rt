@@ -22,24 +22,6 @@ use tables::Span;
 use tables::lookup;
 use tables::lookup::Found;
 
-// The row of a letter without fields.
-pub fn put_letter(out: &mut [i64], count: usize, letter: i64) -> usize
-    requires { ⌜ 5 * count + 5 ≤ length (now out) ⌝ }
-    ensures { λ r. ⌜ Appended (now (out .entry)) (now (out .exit)) count r (letter ∷ pos 0 ∷ pos 0 ∷ pos 0 ∷ pos 0 ∷ []) ⌝ }
-{
-    copies::put_row(
-        out,
-        count,
-        Row {
-            letter,
-            a: 0,
-            b: 0,
-            c: 0,
-            d: 0,
-        },
-    )
-}
-
 // The row of an `L` or a `W`, with another delay.
 pub fn put_delay(nodes: &[i64; 2560], out: &mut [i64], count: usize, at: usize, d: Month) -> usize
     requires { ⌜ (at < 512) × (5 * count + 5 ≤ length (now out)) ⌝ }

@@ -15,7 +15,7 @@ use Rattle.measures.proofs.node.plan_kind.Reads as plan-kind-reads
 use Rattle.nodes.proofs.link.Reads as link-reads
 use Rattle.steps.proofs.keep_waiting.Reads as keep-waiting-reads
 use Rattle.steps.proofs.offsets.due.Reads as due-reads
-use Rattle.steps.proofs.rows.put_letter.Reads as put-letter-reads
+use Rattle.copies.proofs.put_letter.Reads as put-letter-reads
 use Rattle.steps.proofs.step_rows.Reads as step-rows-reads
 use Rattle.steps.proofs.+step_plan.{statement}
 use Rattle.steps.proofs.+step_plan.Tie.{close}

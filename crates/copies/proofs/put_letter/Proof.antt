@@ -1,9 +1,9 @@
 use mir.Facts.{toZ-ofZ}
 use mathlib.Core.Path.{refl}
 use Rattle.copies.proofs.Appending.{appended-as, row-of}
 use borrow.Author.Needs.{needs}
-use Rattle.steps.proofs.rows.put_letter.Statement.{statement}
-use Rattle.steps.proofs.rows.put_letter.Tie as tie
+use Rattle.copies.proofs.put_letter.Statement.{statement}
+use Rattle.copies.proofs.put_letter.Tie as tie
 
 put-row-requires : tie.Need-put-row-requires
 put-row-requires c κs = search needs
