@@ -5,4 +5,5 @@ pub mod Becoming
 pub mod Copying
 pub mod LyingParts
 pub mod PlainWritten
+pub mod PlanLetters
 pub mod Shapes

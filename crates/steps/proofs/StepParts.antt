@@ -13,6 +13,7 @@ use Rattle.amounts.specs.Fine.{FineTest, MonthIn}
 use Rattle.amounts.specs.Flat.{flat}
 use Rattle.amounts.specs.Placed.{placeIn, placedAmount, placedPlan, placedTest}
 use Rattle.copies.proofs.LyingParts.{Three, Two, laid, lying-below, three-lie, two-lie}
+use Rattle.copies.proofs.PlanLetters.{Is, is-so, letter-is, letterOf, some-depth}
 use Rattle.copies.proofs.Shapes.{amount-shape, plan-shape, test-shape}
 use Rattle.copies.specs.Lies.{Lies}
 use Rattle.language.specs.Calls.{lookupOf}
@@ -49,40 +50,15 @@ use Rattle.tables.specs.Lookup.{Kept, readTable}
 
 -- ---- the letter
 
-abbrev letterOf : Plan ℕ → PlanLetter
-letterOf nothing = letter.Nothing
-letterOf (transfer p q) = letter.Transfer
-letterOf (scale a x) = letter.Scale
-letterOf (later d x) = letter.Later
-letterOf (both x y) = letter.Both
-letterOf (within d t x y) = letter.Within
-
--- what a plan with this letter is
-abbrev pub Is : PlanLetter → Plan ℕ → Type 0
-Is letter.Nothing y = y ≡ nothing
-Is letter.Transfer y = (p : ℕ) × (q : ℕ) × (y ≡ transfer p q)
-Is letter.Scale y = (a : Amount ℤ) × (x : Plan ℕ) × (y ≡ scale a x)
-Is letter.Later y = (d : ℕ) × (x : Plan ℕ) × (y ≡ later d x)
-Is letter.Both y = (x : Plan ℕ) × (z : Plan ℕ) × (y ≡ both x z)
-Is letter.Within y = (d : ℕ) × (t : Test ℤ) × (x : Plan ℕ) × (z : Plan ℕ) × (y ≡ within d t x z)
-Is letter.NoPlan y = ⊥
-
-is-so : (y : Plan ℕ) → Is (letterOf y) y
-is-so nothing = refl
-is-so (transfer p q) = (p, q, refl)
-is-so (scale a x) = (a, x, refl)
-is-so (later d x) = (d, x, refl)
-is-so (both x y) = (x, y, refl)
-is-so (within d t x y) = (d, t, x, y, refl)
-
-some-depth : (y : Plan ℕ) → 0 < depthOf y
-unfolding depthOf
-some-depth nothing = omega arith
-some-depth (transfer p q) = omega arith
-some-depth (scale a x) = omega arith
-some-depth (later d x) = omega arith
-some-depth (both x y) = omega arith
-some-depth (within d t x y) = omega arith
+-- filling and placing keep it
+same-letter : (place : ℕ → ℤ → ℤ) (y : Plan ℕ) → letterOf (closed (placedPlan place y)) ≡ letterOf y
+unfolding mapPlan placedPlan
+same-letter place nothing = refl
+same-letter place (transfer p q) = refl
+same-letter place (scale a x) = refl
+same-letter place (later d x) = refl
+same-letter place (both x y) = refl
+same-letter place (within d t x y) = refl
 
 -- a delay, as the code reads it, that is due or is not
 none-left : {d : ℤ} {n : ℕ} → d ≡ pos n → leZ d (pos 0) ≡ true → n ≡ 0
@@ -96,15 +72,6 @@ same-month : (t : Table) (r d : ℕ) (x : Plan ℕ) → d ≡ 0 → readsOf (λ 
 same-month t r d x e h = let z : r + d ≡ r = omega arith in subst (λ k. readsOf (λ l m. T (readable t l m)) x k) z h
 
 module _ {t : Table} {r : ℕ} {nodes : List ℤ} {at to left : ℕ} where
-  letter-is : (y : Plan ℕ) → Steps t r nodes at to left y → planLetter (slotAt nodes at 0) ≡ letterOf y
-  unfolding planTrees mapPlan placedPlan rowOf planRow planLetter
-  letter-is nothing s = rw (byte-at planForm nodes (ofRoot text.PlanLetter.Z) [] end (laid (s .lies))) refl
-  letter-is (transfer p q) s = rw (byte-at planForm nodes (ofRoot text.PlanLetter.T) (aNumber (pos p) ∷ aNumber (pos q) ∷ []) end (laid (s .lies))) refl
-  letter-is (scale a x) s = rw (byte-at planForm nodes (ofRoot text.PlanLetter.S) [] _ (laid (s .lies))) refl
-  letter-is (later d x) s = rw (byte-at planForm nodes (ofRoot text.PlanLetter.L) (aDelay (months d) ∷ []) _ (laid (s .lies))) refl
-  letter-is (both x y) s = rw (byte-at planForm nodes (ofRoot text.PlanLetter.B) [] _ (laid (s .lies))) refl
-  letter-is (within d u x y) s = rw (byte-at planForm nodes (ofRoot text.PlanLetter.W) (aDelay (months d) ∷ []) _ (laid (s .lies))) refl
-
   -- ---- parts
 
   scale-lies : (a : Amount ℤ) (x : Plan ℕ) → Steps t r nodes at to left (scale a x) → Two nodes at to (amountTree aNumber (placedAmount (placeIn t) a)) (planTrees (closed (placedPlan (placeIn t) x)) end)
@@ -184,7 +151,9 @@ early {z} h = omega (arith, natOf-known z (h .known), h .within)
 
 module _ {h f : ℤ} {bounds values : List ℤ} {r : ℕ} {nodes : List ℤ} {at to left : ℕ} (y : Ready h f bounds values r nodes at to left) where
   pub by-letter : {l k : PlanLetter} → l ≡ planLetter (slotAt nodes at 0) → l ≡ k → Is k (y .plan)
-  by-letter el e = subst (λ m. Is m (y .plan)) (sym (letter-is (y .plan) (y .steps)) ∙ sym el ∙ e) (is-so (y .plan))
+  by-letter el e =
+      let place = placeIn (tableOf h f (y .factors) bounds values) in
+      subst (λ m. Is m (y .plan)) (sym (same-letter place (y .plan)) ∙ sym (letter-is (closed (placedPlan place (y .plan))) (y .steps .lies)) ∙ sym el ∙ e) (is-so (y .plan))
 
   pub inside : (at < to) × (to ≤ maxNodes)
   unfolding countOf
