@@ -210,8 +210,8 @@ pub fn step(
         (givenOf (now (days .entry)) h f (now (factors .entry)) (now (bounds .entry)) (now (values .entry))) today p q (now (out .entry)) .answer) ⌝ }
 {
     let mut nodes = [0i64; 2560];
-    let pair = Pair { p: p, q: q };
-    let asked = parties_ok(pair);
+    let parties = Pair { p: p, q: q };
+    let asked = parties_ok(parties);
     let reading = text::read_plan(text, &mut nodes);
     match reading {
         Reading::Nodes(count) => stepped(
@@ -223,7 +223,7 @@ pub fn step(
             bounds,
             values,
             Month(today),
-            pair,
+            parties,
             asked,
             out,
         ),

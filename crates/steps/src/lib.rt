@@ -131,7 +131,8 @@ pub fn step_plan(
             )
         }
         PlanLetter::Later => {
-            if offsets::due(node::delay(nodes, at)) {
+            let d = node::delay(nodes, at);
+            if offsets::due(d) {
                 step_plan(
                     nodes,
                     values,
@@ -193,7 +194,8 @@ pub fn step_plan(
                     left - 1,
                 )
             } else {
-                if offsets::due(node::delay(nodes, at)) {
+                let wait = node::delay(nodes, at);
+                if offsets::due(wait) {
                     step_plan(
                         nodes,
                         values,
