@@ -5,5 +5,6 @@ pub mod Restored
 pub mod RowSteps
 pub mod StepArms
 pub mod StepParts
+pub mod StepReady
 pub mod Stepped
 pub mod Tested

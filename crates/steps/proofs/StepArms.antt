@@ -29,7 +29,7 @@ use Rattle.language.specs.Text.Typed.{amountTree, testTree}
 use Rattle.nodes.specs.Rows.{delaySlot, fieldSlots, slotsOf}
 use Rattle.nodes.specs.Table.{linkAt, natOf, slotAt}
 use Rattle.nodes.specs.declared.PlanLetter.the-variants as letter
-use Rattle.steps.proofs.StepParts.{first-ready, held-ready, later-below, later-due, later-is, later-ready, later-row, later-waits, missed-ready, scale-is, scale-parts, scale-ready, second-ready, span-in, within-due, within-is, within-parts, within-row, within-waits}
+use Rattle.steps.proofs.StepReady.{first-ready, held-ready, later-below, later-due, later-is, later-ready, later-row, later-waits, missed-ready, scale-is, scale-parts, scale-ready, second-ready, span-in, within-due, within-is, within-parts, within-row, within-waits}
 use Rattle.steps.proofs.Stepped.{amount-stepped, plan-restored, within-restored}
 use Rattle.steps.specs.Offsets.{stepRow}
 use Rattle.steps.specs.Ready.{Ready}
