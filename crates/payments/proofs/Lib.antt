@@ -1,4 +1,6 @@
 -- Laws of the calls on payments.
 pub mod Admitted
 pub mod Placed
+pub mod StepPlaced
+pub mod StepTexts
 pub mod Texts

@@ -1,10 +1,10 @@
-// What a plan pays a pair in a month.
+// What a plan pays a pair in a month, and the month step.
 ghost use mathlib.Core.Path.{_≡_};
 ghost use mathlib.Core.Bool.{_&&_};
-ghost use Rattle.language.specs.Calls.{pairOk, paymentCall};
+ghost use Rattle.language.specs.Calls.{intoBuffer, pairOk, paymentCall, stepCall};
 ghost use Rattle.language.specs.Text.Number.{between};
 ghost use Rattle.language.specs.Text.Trees.{Delay, Plan};
-ghost use Rattle.payments.specs.Answers.{askedOk, paidBy, payingAnswer};
+ghost use Rattle.payments.specs.Answers.{askedOk, paidBy, payingAnswer, steppedBy, steppingAnswer};
 ghost use Rattle.rules.specs.Answers.{givenOf};
 ghost use Rattle.rules.specs.Standing.{Standing, Stands};
 use integers::Month;
@@ -15,6 +15,7 @@ use tables::Range;
 use tables::Span;
 use text::Reading;
 use text::Refusal;
+use writer::Written;
 
 pub enum Paying {
     Pays(Pence),
@@ -112,5 +113,120 @@ pub fn payment(
             asked,
         ),
         Reading::Refused(refusal) => Paying::Refused(refusal),
+    }
+}
+
+pub enum Stepping {
+    Stepped(Pence, usize),
+    Refused(Refusal),
+}
+
+// The step of a plan that was read: accepted first, then what it pays today, and the plan for tomorrow from a second table.
+pub fn stepped(
+    nodes: &mut [i64; 2560],
+    count: usize,
+    days: &[i64],
+    span: Span,
+    factors: &[i64],
+    bounds: &[i64],
+    values: &[i64],
+    today: Month,
+    pair: Pair,
+    asked: bool,
+    out: &mut [u8],
+) -> Stepping
+    requires { ⌜ Stands (now nodes) count × (asked ≡ pairOk (pair .p) (pair .q)) ⌝ }
+    ensures { λ r. ⌜ ((x : Plan Delay) → Standing (now (nodes .entry)) count x
+        → (now (out .exit) ≡ intoBuffer (now (out .entry)) (steppedBy
+        (givenOf (now (days .entry)) (span .h) (span .f) (now (factors .entry)) (now (bounds .entry)) (now (values .entry)))
+        (today .0) (pair .p) (pair .q) x) .buffer)
+        × (steppingAnswer r ≡ intoBuffer (now (out .entry)) (steppedBy
+        (givenOf (now (days .entry)) (span .h) (span .f) (now (factors .entry)) (now (bounds .entry)) (now (values .entry)))
+        (today .0) (pair .p) (pair .q) x) .answer)) ⌝ }
+{
+    let checking = rules::accept(
+        nodes,
+        count,
+        days,
+        span,
+        factors,
+        bounds,
+        values,
+        today,
+        asked,
+    );
+    match checking {
+        Checking::Accepted(length, magnitude) => {
+            places::place_rows(nodes, count, span);
+            let pence = pays::plan_pays(nodes, values, today, today, pair, 0, 32);
+            let mut next = [0i64; 2560];
+            let n = steps::step_plan(
+                nodes,
+                values,
+                bounds,
+                span,
+                today,
+                &mut next,
+                0,
+                0,
+                count,
+                32,
+            );
+            let written = writer::write_text(&next, n, out);
+            match written {
+                Written::Bytes(bytes) => Stepping::Stepped(pence, bytes),
+                Written::NoRoom => Stepping::Refused(Refusal::NoRoom),
+            }
+        }
+        Checking::Refused(refusal) => Stepping::Refused(refusal),
+    }
+}
+
+fn parties_ok(pair: Pair) -> bool
+    ensures { λ r. ⌜ r ≡ pairOk (pair .p) (pair .q) ⌝ }
+{
+    tables::party_ok(pair.p) & tables::party_ok(pair.q)
+}
+
+// The pence that p pays q today, and the plan for tomorrow from the first byte of `out` on; a refusal leaves every byte as it was.
+// Demand 3 of document 01 is this contract with the theorem `guarantee` (language, proofs/Guarantee): whatever list of calls that
+// answer as `stepCall` does, schedule, value and roll-forward of the accepted plan agree.
+pub fn step(
+    text: &[u8],
+    days: &[i64],
+    h: i64,
+    f: i64,
+    factors: &[i64],
+    bounds: &[i64],
+    values: &[i64],
+    today: i64,
+    p: i64,
+    q: i64,
+    out: &mut [u8],
+) -> Stepping
+    ensures { λ r. ⌜ (now (out .exit) ≡ stepCall (now (text .entry))
+        (givenOf (now (days .entry)) h f (now (factors .entry)) (now (bounds .entry)) (now (values .entry))) today p q (now (out .entry)) .buffer)
+        × (steppingAnswer r ≡ stepCall (now (text .entry))
+        (givenOf (now (days .entry)) h f (now (factors .entry)) (now (bounds .entry)) (now (values .entry))) today p q (now (out .entry)) .answer) ⌝ }
+{
+    let mut nodes = [0i64; 2560];
+    let parties = Pair { p: p, q: q };
+    let asked = parties_ok(parties);
+    let reading = text::read_plan(text, &mut nodes);
+    match reading {
+        Reading::Nodes(count) => stepped(
+            &mut nodes,
+            count,
+            days,
+            Span { h: h, f: f },
+            factors,
+            bounds,
+            values,
+            Month(today),
+            parties,
+            asked,
+            out,
+        ),
+        Reading::Refused(refusal) => Stepping::Refused(refusal),
     }
 }

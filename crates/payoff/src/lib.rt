@@ -1,12 +1,13 @@
-// Payoffs: cutting.
+// Payoffs: compiling and cutting.
 ghost use mathlib.Core.Path.{_≡_};
-ghost use Prim.Native.Nat.{ℕ, _*_, _+_, _≤_};
+ghost use Prim.Native.Nat.{_*_, _+_, _≤_};
 ghost use lib.ListN.{length};
-ghost use Rattle.language.specs.Calls.{cutCall};
+ghost use Rattle.language.specs.Calls.{compileCall, cutCall};
 ghost use Rattle.nodes.specs.Pass.{mapRows, rowFrom, withRow};
 ghost use Rattle.payoff.specs.Answers.{writingAnswer};
 ghost use Rattle.payoff.specs.Cut.{cutRow};
 ghost use Rattle.writer.specs.Answers.{writtenAnswer};
+use compiles::months::Months;
 use text::Reading;
 use text::Refusal;
 use writer::Written;
@@ -64,6 +65,27 @@ pub fn cut(text: &[u8], out: &mut [u8]) -> Writing
         Reading::Nodes(count) => {
             cut_rows(&mut nodes, count);
             told(writer::write_text(&nodes, count, out))
+        }
+        Reading::Refused(refusal) => Writing::Refused(refusal),
+    }
+}
+
+// The plan's payoff, written from the first byte of `out` on; a refusal leaves every byte as it was.
+pub fn compile(text: &[u8], out: &mut [u8]) -> Writing
+    ensures { λ r. ⌜ (now (out .exit) ≡ compileCall (now (text .entry)) (now (out .entry)) .buffer)
+        × (writingAnswer r ≡ compileCall (now (text .entry)) (now (out .entry)) .answer) ⌝ }
+{
+    let mut nodes = [0i64; 2560];
+    let reading = text::read_plan(text, &mut nodes);
+    match reading {
+        Reading::Nodes(count) => {
+            let mut next = [0i64; 2560];
+            let start = Months {
+                plain: 0,
+                digits: 0,
+            };
+            let n = compiles::compile_plan(&nodes, &mut next, 0, 0, count, start, 32);
+            told(writer::write_text(&next, n, out))
         }
         Reading::Refused(refusal) => Writing::Refused(refusal),
     }

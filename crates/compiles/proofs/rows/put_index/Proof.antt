@@ -1,0 +1,29 @@
+use borrow.Author.Needs.{needs}
+use mir.Facts.{toZ-ofZ}
+use mir.Syntax.{w64}
+use mir.Val.{SFits}
+use mathlib.Core.Path.{_∙_, refl}
+use Rattle.copies.proofs.Appending.{appended-as, row-of}
+use Rattle.compiles.proofs.rows.put_index.Statement.{statement}
+use Rattle.compiles.proofs.rows.put_index.Tie as tie
+
+slot-requires : tie.Need-slot-requires
+slot-requires c κs = search needs
+
+put-row-requires : tie.Need-put-row-requires
+put-row-requires c κs = search needs
+
+same-length : tie.Need-same-length
+same-length c = search needs
+
+returns : tie.Need-returns
+returns c =
+    let a = c .before .before .before .before .before .args in
+    let p : SFits w64 (a .month .plain) = search needs in
+    let q : SFits w64 (a .month .digits) = search needs in
+    let x = c .before .before .before .slot in
+    let f : SFits w64 (x .result) = search needs in
+    appended-as (row-of refl (toZ-ofZ f ∙ x .ensures) (toZ-ofZ p) (toZ-ofZ q) refl) (c .before .put-row .ensures)
+
+pub put-index-spec : {M : Type 1} → statement M
+put-index-spec = tie.close (tie.spec slot-requires put-row-requires same-length returns)

@@ -1,0 +1,3 @@
+-- Compiling in the node table.
+pub mod Months
+pub mod Ready

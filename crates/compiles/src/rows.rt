@@ -1,0 +1,82 @@
+// One row of a compiled payoff.
+ghost use Prim.Native.Nat.{_*_, _+_, _<_, _≤_};
+ghost use lib.IntN.{natAbs, pos};
+ghost use lib.ListN.{length};
+ghost use mathlib.Core.List.{[], _∷_};
+ghost use mathlib.Core.Path.{_≡_};
+ghost use Rattle.compiles.specs.Months.{compileRow};
+ghost use Rattle.copies.specs.Appended.{Appended};
+ghost use Rattle.nodes.specs.Pass.{rowFrom};
+ghost use Rattle.nodes.specs.Table.{slotAt};
+use crate::months;
+use crate::months::Months;
+use copies::Row;
+use integers::Month;
+use measures::node;
+
+// A delay's number: below zero it is an open setting.
+pub fn delay(nodes: &[i64; 2560], at: usize) -> Month
+    requires { ⌜ at < 512 ⌝ }
+    ensures { λ r. ⌜ r .0 ≡ slotAt (now (nodes .entry)) at 1 ⌝ }
+{
+    Month(nodes::slot(nodes, at, 1))
+}
+
+// A payment in this month, between the parties of the `T` at a node.
+pub fn put_leaf(
+    nodes: &[i64; 2560],
+    out: &mut [i64],
+    count: usize,
+    at: usize,
+    month: Months,
+) -> usize
+    requires { ⌜ (at < 512) × (5 * count + 5 ≤ length (now out)) ⌝ }
+    ensures { λ r. ⌜ Appended (now (out .entry)) (now (out .exit)) count r (pos 70 ∷ month .plain ∷ month .digits ∷ slotAt (now (nodes .entry)) at 1 ∷ slotAt (now (nodes .entry)) at 2 ∷ []) ⌝ }
+{
+    copies::put_row(
+        out,
+        count,
+        Row {
+            letter: 70,
+            a: month.plain,
+            b: month.digits,
+            c: nodes::slot(nodes, at, 1),
+            d: nodes::slot(nodes, at, 2),
+        },
+    )
+}
+
+// An `O` of the label at a node, in this month.
+fn put_index(nodes: &[i64; 2560], out: &mut [i64], count: usize, at: usize, month: Months) -> usize
+    requires { ⌜ (at < 512) × (5 * count + 5 ≤ length (now out)) ⌝ }
+    ensures { λ r. ⌜ Appended (now (out .entry)) (now (out .exit)) count r (pos 79 ∷ slotAt (now (nodes .entry)) at 1 ∷ month .plain ∷ month .digits ∷ pos 0 ∷ []) ⌝ }
+{
+    copies::put_row(
+        out,
+        count,
+        Row {
+            letter: 79,
+            a: nodes::slot(nodes, at, 1),
+            b: month.plain,
+            c: month.digits,
+            d: 0,
+        },
+    )
+}
+
+pub fn compile_row(
+    nodes: &[i64; 2560],
+    out: &mut [i64],
+    count: usize,
+    at: usize,
+    month: Months,
+) -> usize
+    requires { ⌜ (natAbs (month .plain) ≤ 19_200) × (at < 512) × (5 * count + 5 ≤ length (now out)) ⌝ }
+    ensures { λ r. ⌜ Appended (now (out .entry)) (now (out .exit)) count r (compileRow (month .plain) (month .digits) (rowFrom (at * 5) (now (nodes .entry)))) ⌝ }
+{
+    if node::is_index(nodes, at) {
+        let m = months::offset_month(month, node::offset(nodes, at));
+        return put_index(nodes, out, count, at, m);
+    }
+    copies::copy_row(nodes, out, count, at)
+}

@@ -1,0 +1,123 @@
+use lib.ListN.{length}
+use mathlib.Core.Path.{_∙_, _≡_, ap, sym}
+use native.Mathlib.Omega.{arith}
+use Rattle.payments.proofs.StepPlaced.{answer-is, buffer-is, fine, pair-is, pence-are, placing, ready, refusal-is, refusal-keeps, rows-in, span-in, stands, today-is, with-bytes, without-room}
+use Rattle.rules.proofs.Filling.{standing-rows}
+use Rattle.writer.specs.Answers.{writtenAnswer}
+use borrow.Author.Needs.{needs}
+use Rattle.payments.proofs.stepped.Statement.{statement}
+use Rattle.payments.proofs.stepped.Tie as tie
+
+accept-requires : tie.Need-accept-requires
+accept-requires c κs =
+    c .before .before .pre .0
+
+enum-known-checking : tie.Need-enum-known-checking
+enum-known-checking c = search needs
+
+place-rows-requires : tie.Need-place-rows-requires
+place-rows-requires c κs =
+    let s = c .before .before .before .before .before .before .before in
+    let a = s .args in
+    let w = placing (a .pair .p) (a .pair .q) (c .before .before .before .before .accept .ensures) (s .pre .1) (c .before .before .checking .given .1) (s .pre .0 .standing) in
+    let e : length (c .before .before .before .before .accept .last .0) ≡ 2560 = search needs in
+    (omega (arith, standing-rows (s .pre .0 .standing)), span-in w, rows-in w)
+
+plan-pays-requires : tie.Need-plan-pays-requires
+plan-pays-requires c κs =
+    let s = c .before .before .before .before .before .before .before .before .before in
+    let a = s .args in
+    let w = placing (a .pair .p) (a .pair .q) (c .before .before .before .before .before .before .accept .ensures) (s .pre .1) (c .before .before .before .before .checking .given .1) (s .pre .0 .standing) in
+    let r = c .before .place-rows in
+    (today-is w, today-is w, pair-is w, stands w (r .last .0) (r .ensures), fine w (r .last .0) (r .ensures))
+
+slice-aggregate-step-plan : tie.Need-slice-aggregate-step-plan
+slice-aggregate-step-plan c = search needs
+
+step-plan-requires : tie.Need-step-plan-requires
+step-plan-requires c κs =
+    let s = c .before .before .before .before .before .before .before .before .before .before .before .before in
+    let a = s .args in
+    let w = placing (a .pair .p) (a .pair .q) (c .before .before .before .before .before .before .before .before .before .accept .ensures) (s .pre .1) (c .before .before .before .before .before .before .before .checking .given .1) (s .pre .0 .standing) in
+    let r = c .before .before .before .before .place-rows in
+    (today-is w, ready w (r .last .0) (r .ensures), omega (arith, standing-rows (s .pre .0 .standing)))
+
+slice-aggregate-write-text : tie.Need-slice-aggregate-write-text
+slice-aggregate-write-text c = search needs
+
+write-text-requires : tie.Need-write-text-requires
+write-text-requires c κs =
+    let s = c .before .before .before .before .before .before .before .before .before .before .before .before .before .before .before .before in
+    let n = c .before .before .before .step-plan .ensures .0 in
+    let e : length (c .before .before .before .step-plan .last .1 .1 .1 .1 .1 .0) ≡ 2560 = search needs in
+    (omega (arith, standing-rows (s .pre .0 .standing), n), omega (arith, standing-rows (s .pre .0 .standing), n))
+
+enum-known-written : tie.Need-enum-known-written
+enum-known-written c = search needs
+
+enum-told : tie.Need-enum-told
+enum-told c = search needs
+
+enum-known-checking-2 : tie.Need-enum-known-checking-2
+enum-known-checking-2 c = search needs
+
+same-length : tie.Need-same-length
+same-length c = search needs
+
+returns : tie.Need-returns
+returns c x y =
+    let s = c .before .before .before .before .before .before .before .before .before .before .before .before .before .before .before .before .before .before .before .before .before .before in
+    let a = s .args in
+    let w = placing (a .pair .p) (a .pair .q) (c .before .before .before .before .before .before .before .before .before .before .before .before .before .before .before .before .before .before .before .accept .ensures) (s .pre .1) (c .before .before .before .before .before .before .before .before .before .before .before .before .before .before .before .before .before .checking .given .1) y in
+    let r = c .before .before .before .before .before .before .before .before .before .before .before .before .before .before .place-rows in
+    let k = c .before .before .before .before .before .before .before .before .before .step-plan in
+    let o = c .before .before .before .before .before .write-text in
+    let v = pence-are w (r .last .0) (r .ensures) (c .before .before .before .before .before .before .before .before .before .before .before .before .plan-pays .ensures) in (
+      buffer-is w (r .last .0) (r .ensures) _ _ _ (k .ensures .1) (a .out .now) (o .ensures .0),
+      with-bytes (c .before .before .before .before .before .before .before .before .before .before .before .before .plan-pays .result) _ ∙ answer-is w (r .last .0) (r .ensures) _ _ _ (k .ensures .1) (a .out .now) v _ (ap writtenAnswer (sym (c .before .written .given .1)) ∙ o .ensures .1),
+    )
+
+same-length-2 : tie.Need-same-length-2
+same-length-2 c = search needs
+
+returns-2 : tie.Need-returns-2
+returns-2 c x y =
+    let s = c .before .before .before .before .before .before .before .before .before .before .before .before .before .before .before .before .before .before .before .before .before in
+    let a = s .args in
+    let w = placing (a .pair .p) (a .pair .q) (c .before .before .before .before .before .before .before .before .before .before .before .before .before .before .before .before .before .before .accept .ensures) (s .pre .1) (c .before .before .before .before .before .before .before .before .before .before .before .before .before .before .before .before .checking .given .1) y in
+    let r = c .before .before .before .before .before .before .before .before .before .before .before .before .before .place-rows in
+    let k = c .before .before .before .before .before .before .before .before .step-plan in
+    let o = c .before .before .before .before .write-text in
+    let v = pence-are w (r .last .0) (r .ensures) (c .before .before .before .before .before .before .before .before .before .before .before .plan-pays .ensures) in (
+      buffer-is w (r .last .0) (r .ensures) _ _ _ (k .ensures .1) (a .out .now) (o .ensures .0),
+      without-room (c .before .before .before .before .before .before .before .before .before .before .before .plan-pays .result) ∙ answer-is w (r .last .0) (r .ensures) _ _ _ (k .ensures .1) (a .out .now) v _ (ap writtenAnswer (sym (c .enum-told .given .1)) ∙ o .ensures .1),
+    )
+
+returns-3 : tie.Need-returns-3
+returns-3 c x y =
+    let s = c .before .before .before .before .before .before in
+    let a = s .args in (
+      refusal-keeps (a .pair .p) (a .pair .q) (c .before .before .before .accept .ensures) (s .pre .1) (c .before .checking2 .given .1) y (a .out .now),
+      refusal-is (a .pair .p) (a .pair .q) (c .before .before .before .accept .ensures) (s .pre .1) (c .before .checking2 .given .1) y (a .out .now),
+    )
+
+pub stepped-spec : {M : Type 1} → statement M
+stepped-spec =
+    tie.close
+    (tie.spec
+    accept-requires
+    enum-known-checking
+    place-rows-requires
+    plan-pays-requires
+    slice-aggregate-step-plan
+    step-plan-requires
+    slice-aggregate-write-text
+    write-text-requires
+    enum-known-written
+    enum-told
+    enum-known-checking-2
+    same-length
+    returns
+    same-length-2
+    returns-2
+    returns-3)

@@ -1,0 +1,340 @@
+use borrow.Author.Needs.{needs}
+use mathlib.Core.Path.{_∙_, sym}
+use native.Mathlib.Omega.{arith}
+use Rattle.steps.proofs.StepArms as arms
+use Rattle.steps.proofs.StepReady as parts
+use Prim.Native.Nat.{ℕ, _<_}
+use borrow.Fn.Kinds.{In}
+use borrow.Fn.PlainCycle.{Measures, is, falls, and}
+use Rattle.steps.proofs.step_plan.Reads as step-plan
+use Rattle.steps.proofs.step_plan.Kinds as step-plan-kinds
+use Rattle.steps.proofs.+step_plan.Lts-step_plan as step-plan-lts
+use Rattle.amounts.proofs.test_holds.Reads as test-holds-reads
+use Rattle.measures.proofs.node.delay.Reads as delay-reads
+use Rattle.measures.proofs.node.plan_kind.Reads as plan-kind-reads
+use Rattle.nodes.proofs.link.Reads as link-reads
+use Rattle.steps.proofs.keep_waiting.Reads as keep-waiting-reads
+use Rattle.steps.proofs.offsets.due.Reads as due-reads
+use Rattle.copies.proofs.put_letter.Reads as put-letter-reads
+use Rattle.steps.proofs.step_rows.Reads as step-rows-reads
+use Rattle.steps.proofs.+step_plan.{statement}
+use Rattle.steps.proofs.+step_plan.Tie.{close}
+
+abbrev μ-step-plan : Measures 4 step-plan-kinds.ps ℕ
+μ-step-plan κs a = a .1 .1 .1 .1 .1 .1 .1 .1 .1 .0
+
+abbrev step-plan-at : ℕ → In 4 step-plan-kinds.ps
+step-plan-at t = and 4 step-plan-kinds.ps (is 4 step-plan-kinds.ps μ-step-plan t) step-plan.Pre
+
+abbrev step-plan-below : ℕ → In 4 step-plan-kinds.ps
+step-plan-below t = and 4 step-plan-kinds.ps (falls 4 step-plan-kinds.ps _<_ μ-step-plan t) step-plan.Pre
+
+abbrev step-plan-calls : ℕ → step-plan-lts.Claims
+step-plan-calls t = (plan-kind-reads.Asked, plan-kind-reads.Learnt, put-letter-reads.Asked, put-letter-reads.Learnt, link-reads.Asked, link-reads.Learnt, step-rows-reads.Asked, step-rows-reads.Learnt, step-plan-below t, step-plan.Post, delay-reads.Asked, delay-reads.Learnt, due-reads.Asked, due-reads.Learnt, keep-waiting-reads.Asked, keep-waiting-reads.Learnt, test-holds-reads.Asked, test-holds-reads.Learnt)
+
+step-plan-plan-kind-requires : (t : ℕ) → step-plan-lts.Need-plan-kind-requires (step-plan-calls t) (step-plan-at t) step-plan.Post
+step-plan-plan-kind-requires t c κs =
+    let y = c .pre .1 .1 in
+    omega (arith, parts.inside y .0, parts.inside y .1)
+
+step-plan-put-letter-requires : (t : ℕ) → step-plan-lts.Need-put-letter-requires (step-plan-calls t) (step-plan-at t) step-plan.Post
+step-plan-put-letter-requires t c κs =
+    let y = c .before .before .before .before .pre .1 .1 in
+    omega (arith, c .before .before .before .before .pre .1 .2, parts.inside y .0)
+
+step-plan-put-letter-requires-2 : (t : ℕ) → step-plan-lts.Need-put-letter-requires-2 (step-plan-calls t) (step-plan-at t) step-plan.Post
+step-plan-put-letter-requires-2 t c κs =
+    let y = c .before .before .before .before .pre .1 .1 in
+    omega (arith, c .before .before .before .before .pre .1 .2, parts.inside y .0)
+
+step-plan-link-requires : (t : ℕ) → step-plan-lts.Need-link-requires (step-plan-calls t) (step-plan-at t) step-plan.Post
+step-plan-link-requires t c κs =
+    let y = c .before .before .before .pre .1 .1 in
+    let i = parts.by-letter y (c .before .before .plan-kind .ensures) (c .enum-told3 .given .1) in
+    (omega (arith, parts.inside y .0, parts.inside y .1), omega arith, parts.scale-parts y i .forward)
+
+step-plan-put-letter-requires-3 : (t : ℕ) → step-plan-lts.Need-put-letter-requires-3 (step-plan-calls t) (step-plan-at t) step-plan.Post
+step-plan-put-letter-requires-3 t c κs =
+    let y = c .before .before .before .before .before .pre .1 .1 in
+    omega (arith, c .before .before .before .before .before .pre .1 .2, parts.inside y .0)
+
+step-plan-add-step-rows : (t : ℕ) → step-plan-lts.Need-add-step-rows (step-plan-calls t) (step-plan-at t) step-plan.Post
+step-plan-add-step-rows t c =
+    let y = c .before .before .before .before .before .before .before .before .pre .1 .1 in
+    record { fits = omega (arith, parts.inside y .0, parts.inside y .1) }
+
+step-plan-step-rows-requires : (t : ℕ) → step-plan-lts.Need-step-rows-requires (step-plan-calls t) (step-plan-at t) step-plan.Post
+step-plan-step-rows-requires t c κs =
+    let y = c .before .before .before .before .before .before .before .before .pre .1 .1 in
+    let i = parts.by-letter y (c .before .before .before .before .before .before .before .plan-kind .ensures) (c .before .before .before .before .before .enum-told3 .given .1) in
+    let o = parts.scale-order y i (c .before .before .before .before .link .ensures) in
+    (parts.span-in y, parts.kept y, c .before .before .before .before .before .before .before .before .pre .1 .0, o .0, omega (arith, o .1, parts.inside y .1), omega (arith, o .0, o .1, c .before .before .before .before .before .before .before .before .pre .1 .2, c .before .before .put-letter3 .ensures .ends, c .before .before .put-letter3 .kept .0))
+
+step-plan-sub-step-plan : (t : ℕ) → step-plan-lts.Need-sub-step-plan (step-plan-calls t) (step-plan-at t) step-plan.Post
+step-plan-sub-step-plan t c =
+    let y = c .before .before .before .before .before .before .before .before .before .before .before .pre .1 .1 in
+    omega (arith, parts.some-left y)
+
+step-plan-step-plan-requires : (t : ℕ) → step-plan-lts.Need-step-plan-requires (step-plan-calls t) (step-plan-at t) step-plan.Post
+step-plan-step-plan-requires t c κs =
+    let y = c .before .before .before .before .before .before .before .before .before .before .before .pre .1 .1 in
+    let i = parts.by-letter y (c .before .before .before .before .before .before .before .before .before .before .plan-kind .ensures) (c .before .before .before .before .before .before .before .before .enum-told3 .given .1) in
+    let o = parts.scale-order y i (c .before .before .before .before .before .before .before .link .ensures) in
+    (omega (arith, parts.some-left y), (c .before .before .before .before .before .before .before .before .before .before .before .pre .1 .0, parts.scale-ready y i (c .before .before .before .before .before .before .before .link .ensures), omega (arith, o .0, o .1, c .before .before .before .before .before .before .before .before .before .before .before .pre .1 .2, c .before .before .before .before .before .put-letter3 .ensures .ends, c .before .before .before .before .before .put-letter3 .kept .0, c .before .before .step-rows .ensures .counted, c .before .before .step-rows .ensures .added .size)))
+
+step-plan-delay-requires : (t : ℕ) → step-plan-lts.Need-delay-requires (step-plan-calls t) (step-plan-at t) step-plan.Post
+step-plan-delay-requires t c κs =
+    let y = c .before .before .before .pre .1 .1 in
+    omega (arith, parts.inside y .0, parts.inside y .1)
+
+step-plan-add-step-plan : (t : ℕ) → step-plan-lts.Need-add-step-plan (step-plan-calls t) (step-plan-at t) step-plan.Post
+step-plan-add-step-plan t c =
+    let y = c .before .before .before .before .before .before .before .pre .1 .1 in
+    record { fits = omega (arith, parts.inside y .0, parts.inside y .1) }
+
+step-plan-sub-step-plan-2 : (t : ℕ) → step-plan-lts.Need-sub-step-plan-2 (step-plan-calls t) (step-plan-at t) step-plan.Post
+step-plan-sub-step-plan-2 t c =
+    let y = c .before .before .before .before .before .before .before .pre .1 .1 in
+    omega (arith, parts.some-left y)
+
+step-plan-step-plan-requires-2 : (t : ℕ) → step-plan-lts.Need-step-plan-requires-2 (step-plan-calls t) (step-plan-at t) step-plan.Post
+step-plan-step-plan-requires-2 t c κs =
+    let y = c .before .before .before .before .before .before .before .pre .1 .1 in
+    let i = parts.by-letter y (c .before .before .before .before .before .before .plan-kind .ensures) (c .before .before .before .before .enum-told4 .given .1) in
+    (omega (arith, parts.some-left y), (c .before .before .before .before .before .before .before .pre .1 .0, parts.later-ready y i (c .before .before .before .delay .ensures) (sym (c .before .before .due .ensures) ∙ c .before .if1 .taken), omega (arith, c .before .before .before .before .before .before .before .pre .1 .2, parts.inside y .0)))
+
+step-plan-keep-waiting-requires : (t : ℕ) → step-plan-lts.Need-keep-waiting-requires (step-plan-calls t) (step-plan-at t) step-plan.Post
+step-plan-keep-waiting-requires t c κs =
+    let y = c .before .before .before .before .before .before .before .pre .1 .1 in
+    (parts.span-in y, parts.inside y .0, parts.inside y .1, parts.some-left-of (c .before .before .before .delay .ensures) (sym (c .before .before .due .ensures) ∙ c .before .if1 .left), c .before .before .before .before .before .before .before .pre .1 .2)
+
+step-plan-link-requires-2 : (t : ℕ) → step-plan-lts.Need-link-requires-2 (step-plan-calls t) (step-plan-at t) step-plan.Post
+step-plan-link-requires-2 t c κs =
+    let y = c .before .before .before .pre .1 .1 in
+    let i = parts.by-letter y (c .before .before .plan-kind .ensures) (c .enum-told5 .given .1) in
+    (omega (arith, parts.inside y .0, parts.inside y .1), omega arith, parts.both-parts y i .forward)
+
+step-plan-put-letter-requires-4 : (t : ℕ) → step-plan-lts.Need-put-letter-requires-4 (step-plan-calls t) (step-plan-at t) step-plan.Post
+step-plan-put-letter-requires-4 t c κs =
+    let y = c .before .before .before .before .before .pre .1 .1 in
+    omega (arith, c .before .before .before .before .before .pre .1 .2, parts.inside y .0)
+
+step-plan-add-step-plan-2 : (t : ℕ) → step-plan-lts.Need-add-step-plan-2 (step-plan-calls t) (step-plan-at t) step-plan.Post
+step-plan-add-step-plan-2 t c =
+    let y = c .before .before .before .before .before .before .before .before .pre .1 .1 in
+    record { fits = omega (arith, parts.inside y .0, parts.inside y .1) }
+
+step-plan-sub-step-plan-3 : (t : ℕ) → step-plan-lts.Need-sub-step-plan-3 (step-plan-calls t) (step-plan-at t) step-plan.Post
+step-plan-sub-step-plan-3 t c =
+    let y = c .before .before .before .before .before .before .before .before .pre .1 .1 in
+    omega (arith, parts.some-left y)
+
+step-plan-step-plan-requires-3 : (t : ℕ) → step-plan-lts.Need-step-plan-requires-3 (step-plan-calls t) (step-plan-at t) step-plan.Post
+step-plan-step-plan-requires-3 t c κs =
+    let y = c .before .before .before .before .before .before .before .before .pre .1 .1 in
+    let i = parts.by-letter y (c .before .before .before .before .before .before .before .plan-kind .ensures) (c .before .before .before .before .before .enum-told5 .given .1) in
+    let o = parts.both-order y i (c .before .before .before .before .link2 .ensures) in
+    (omega (arith, parts.some-left y), (c .before .before .before .before .before .before .before .before .pre .1 .0, parts.first-ready y i (c .before .before .before .before .link2 .ensures), omega (arith, o .0, o .1, c .before .before .before .before .before .before .before .before .pre .1 .2, c .before .before .put-letter4 .ensures .ends, c .before .before .put-letter4 .kept .0)))
+
+step-plan-sub-step-plan-4 : (t : ℕ) → step-plan-lts.Need-sub-step-plan-4 (step-plan-calls t) (step-plan-at t) step-plan.Post
+step-plan-sub-step-plan-4 t c =
+    let y = c .before .before .before .before .before .before .before .before .before .before .before .pre .1 .1 in
+    omega (arith, parts.some-left y)
+
+step-plan-step-plan-requires-4 : (t : ℕ) → step-plan-lts.Need-step-plan-requires-4 (step-plan-calls t) (step-plan-at t) step-plan.Post
+step-plan-step-plan-requires-4 t c κs =
+    let y = c .before .before .before .before .before .before .before .before .before .before .before .pre .1 .1 in
+    let i = parts.by-letter y (c .before .before .before .before .before .before .before .before .before .before .plan-kind .ensures) (c .before .before .before .before .before .before .before .before .enum-told5 .given .1) in
+    let o = parts.both-order y i (c .before .before .before .before .before .before .before .link2 .ensures) in
+    (omega (arith, parts.some-left y), (c .before .before .before .before .before .before .before .before .before .before .before .pre .1 .0, parts.second-ready y i (c .before .before .before .before .before .before .before .link2 .ensures), omega (arith, o .0, o .1, c .before .before .before .before .before .before .before .before .before .before .before .pre .1 .2, c .before .before .before .before .before .put-letter4 .ensures .ends, c .before .before .before .before .before .put-letter4 .kept .0, c .before .before .step-plan3 .ensures .0, c .before .before .step-plan3 .ensures .1 (parts.first-ready y i (c .before .before .before .before .before .before .before .link2 .ensures)) .size)))
+
+step-plan-link-requires-3 : (t : ℕ) → step-plan-lts.Need-link-requires-3 (step-plan-calls t) (step-plan-at t) step-plan.Post
+step-plan-link-requires-3 t c κs =
+    let y = c .before .before .before .pre .1 .1 in
+    let i = parts.by-letter y (c .before .before .plan-kind .ensures) (c .enum-told6 .given .1) in
+    (omega (arith, parts.inside y .0, parts.inside y .1), omega arith, parts.within-parts y i .forward)
+
+step-plan-link-requires-4 : (t : ℕ) → step-plan-lts.Need-link-requires-4 (step-plan-calls t) (step-plan-at t) step-plan.Post
+step-plan-link-requires-4 t c κs =
+    let y = c .before .before .before .before .pre .1 .1 in
+    let i = parts.by-letter y (c .before .before .before .plan-kind .ensures) (c .before .enum-told6 .given .1) in
+    (omega (arith, parts.inside y .0, parts.inside y .1), omega arith, parts.within-parts y i .forwardAgain)
+
+step-plan-add-test-holds : (t : ℕ) → step-plan-lts.Need-add-test-holds (step-plan-calls t) (step-plan-at t) step-plan.Post
+step-plan-add-test-holds t c =
+    let y = c .before .before .before .before .before .pre .1 .1 in
+    record { fits = omega (arith, parts.inside y .0, parts.inside y .1) }
+
+step-plan-test-holds-requires : (t : ℕ) → step-plan-lts.Need-test-holds-requires (step-plan-calls t) (step-plan-at t) step-plan.Post
+step-plan-test-holds-requires t c κs =
+    let y = c .before .before .before .before .before .pre .1 .1 in
+    let i = parts.by-letter y (c .before .before .before .before .plan-kind .ensures) (c .before .before .enum-told6 .given .1) in
+    let u = parts.tested y i (parts.early (c .before .before .before .before .before .pre .1 .0)) in
+    (c .before .before .before .before .before .pre .1 .0, u .0, u .1)
+
+step-plan-sub-step-plan-5 : (t : ℕ) → step-plan-lts.Need-sub-step-plan-5 (step-plan-calls t) (step-plan-at t) step-plan.Post
+step-plan-sub-step-plan-5 t c =
+    let y = c .before .before .before .before .before .before .before .before .pre .1 .1 in
+    omega (arith, parts.some-left y)
+
+step-plan-step-plan-requires-5 : (t : ℕ) → step-plan-lts.Need-step-plan-requires-5 (step-plan-calls t) (step-plan-at t) step-plan.Post
+step-plan-step-plan-requires-5 t c κs =
+    let y = c .before .before .before .before .before .before .before .before .pre .1 .1 in
+    let i = parts.by-letter y (c .before .before .before .before .before .before .before .plan-kind .ensures) (c .before .before .before .before .before .enum-told6 .given .1) in
+    let o = parts.within-order y i (c .before .before .before .before .link3 .ensures) (c .before .before .before .link4 .ensures) in
+    (omega (arith, parts.some-left y), (c .before .before .before .before .before .before .before .before .pre .1 .0, parts.held-ready y i (c .before .before .before .before .link3 .ensures) (c .before .before .before .link4 .ensures), omega (arith, o .0, o .1, o .2, c .before .before .before .before .before .before .before .before .pre .1 .2)))
+
+step-plan-delay-requires-2 : (t : ℕ) → step-plan-lts.Need-delay-requires-2 (step-plan-calls t) (step-plan-at t) step-plan.Post
+step-plan-delay-requires-2 t c κs =
+    let y = c .before .before .before .before .before .before .before .pre .1 .1 in
+    omega (arith, parts.inside y .0, parts.inside y .1)
+
+step-plan-sub-step-plan-6 : (t : ℕ) → step-plan-lts.Need-sub-step-plan-6 (step-plan-calls t) (step-plan-at t) step-plan.Post
+step-plan-sub-step-plan-6 t c =
+    let y = c .before .before .before .before .before .before .before .before .before .before .before .pre .1 .1 in
+    omega (arith, parts.some-left y)
+
+step-plan-step-plan-requires-6 : (t : ℕ) → step-plan-lts.Need-step-plan-requires-6 (step-plan-calls t) (step-plan-at t) step-plan.Post
+step-plan-step-plan-requires-6 t c κs =
+    let y = c .before .before .before .before .before .before .before .before .before .before .before .pre .1 .1 in
+    let i = parts.by-letter y (c .before .before .before .before .before .before .before .before .before .before .plan-kind .ensures) (c .before .before .before .before .before .before .before .before .enum-told6 .given .1) in
+    let o = parts.within-order y i (c .before .before .before .before .before .before .before .link3 .ensures) (c .before .before .before .before .before .before .link4 .ensures) in
+    (omega (arith, parts.some-left y), (c .before .before .before .before .before .before .before .before .before .before .before .pre .1 .0, parts.missed-ready y i (c .before .before .before .before .before .before .before .link3 .ensures) (c .before .before .before .before .before .before .link4 .ensures) (c .before .before .before .delay2 .ensures) (sym (c .before .before .due2 .ensures) ∙ c .before .if3 .taken), omega (arith, o .0, o .1, o .2, c .before .before .before .before .before .before .before .before .before .before .before .pre .1 .2)))
+
+step-plan-keep-waiting-requires-2 : (t : ℕ) → step-plan-lts.Need-keep-waiting-requires-2 (step-plan-calls t) (step-plan-at t) step-plan.Post
+step-plan-keep-waiting-requires-2 t c κs =
+    let y = c .before .before .before .before .before .before .before .before .before .before .before .pre .1 .1 in
+    (parts.span-in y, parts.inside y .0, parts.inside y .1, parts.some-left-of (c .before .before .before .delay2 .ensures) (sym (c .before .before .due2 .ensures) ∙ c .before .if3 .left), c .before .before .before .before .before .before .before .before .before .before .before .pre .1 .2)
+
+step-plan-returns : (t : ℕ) → step-plan-lts.Need-returns (step-plan-calls t) (step-plan-at t) step-plan.Post
+step-plan-returns t c =
+    let y = c .before .before .before .before .before .before .pre .1 .1 in
+    (omega (arith, parts.inside y .0, c .before .put-letter .ensures .ends), λ z. arms.nothing-arm z (parts.by-letter z (c .before .before .before .before .before .plan-kind .ensures) (c .before .before .before .enum-told .given .1)) (c .before .put-letter .ensures))
+
+step-plan-returns-2 : (t : ℕ) → step-plan-lts.Need-returns-2 (step-plan-calls t) (step-plan-at t) step-plan.Post
+step-plan-returns-2 t c =
+    let y = c .before .before .before .before .before .before .pre .1 .1 in
+    (omega (arith, parts.inside y .0, c .before .put-letter2 .ensures .ends), λ z. arms.transfer-arm z (parts.by-letter z (c .before .before .before .before .before .plan-kind .ensures) (c .before .before .before .enum-told2 .given .1)) (c .before .put-letter2 .ensures))
+
+step-plan-returns-3 : (t : ℕ) → step-plan-lts.Need-returns-3 (step-plan-calls t) (step-plan-at t) step-plan.Post
+step-plan-returns-3 t c =
+    let y = c .before .before .before .before .before .before .before .before .before .before .before .before .before .pre .1 .1 in
+    let i = parts.by-letter y (c .before .before .before .before .before .before .before .before .before .before .before .before .plan-kind .ensures) (c .before .before .before .before .before .before .before .before .before .before .enum-told3 .given .1) in
+    let o = parts.scale-order y i (c .before .before .before .before .before .before .before .before .before .link .ensures) in
+    (omega (arith, o .0, o .1, c .before .before .before .before .before .before .before .put-letter3 .ensures .ends, c .before .before .before .before .step-rows .ensures .counted, c .before .step-plan .ensures .0), λ z. arms.scale-arm z (c .before .before .before .before .before .before .before .before .before .link .ensures) (parts.by-letter z (c .before .before .before .before .before .before .before .before .before .before .before .before .plan-kind .ensures) (c .before .before .before .before .before .before .before .before .before .before .enum-told3 .given .1)) (c .before .before .before .before .before .before .before .put-letter3 .ensures) (c .before .before .before .before .step-rows .ensures) (c .before .step-plan .ensures .1))
+
+step-plan-returns-4 : (t : ℕ) → step-plan-lts.Need-returns-4 (step-plan-calls t) (step-plan-at t) step-plan.Post
+step-plan-returns-4 t c =
+    let y = c .before .before .before .before .before .before .before .before .before .pre .1 .1 in
+    (omega (arith, c .before .step-plan2 .ensures .0), λ z. arms.due-arm z (parts.by-letter z (c .before .before .before .before .before .before .before .before .plan-kind .ensures) (c .before .before .before .before .before .before .enum-told4 .given .1)) (c .before .before .before .before .before .delay .ensures) (sym (c .before .before .before .before .due .ensures) ∙ c .before .before .before .if1 .taken) (c .before .step-plan2 .ensures .1))
+
+step-plan-returns-5 : (t : ℕ) → step-plan-lts.Need-returns-5 (step-plan-calls t) (step-plan-at t) step-plan.Post
+step-plan-returns-5 t c =
+    let y = c .before .before .before .before .before .before .before .before .before .pre .1 .1 in
+    (omega (arith, parts.inside y .0, c .before .keep-waiting .ensures .counted), λ z. arms.later-arm z (parts.by-letter z (c .before .before .before .before .before .before .before .before .plan-kind .ensures) (c .before .before .before .before .before .before .enum-told4 .given .1)) (c .before .before .before .before .before .delay .ensures) (sym (c .before .before .before .before .due .ensures) ∙ c .before .before .before .if1 .left) (c .before .keep-waiting .ensures))
+
+step-plan-returns-6 : (t : ℕ) → step-plan-lts.Need-returns-6 (step-plan-calls t) (step-plan-at t) step-plan.Post
+step-plan-returns-6 t c =
+    let y = c .before .before .before .before .before .before .before .before .before .before .before .before .before .pre .1 .1 in
+    let i = parts.by-letter y (c .before .before .before .before .before .before .before .before .before .before .before .before .plan-kind .ensures) (c .before .before .before .before .before .before .before .before .before .before .enum-told5 .given .1) in
+    let o = parts.both-order y i (c .before .before .before .before .before .before .before .before .before .link2 .ensures) in
+    (omega (arith, o .0, o .1, c .before .before .before .before .before .before .before .put-letter4 .ensures .ends, c .before .before .before .before .step-plan3 .ensures .0, c .before .step-plan4 .ensures .0), λ z. arms.both-arm z (c .before .before .before .before .before .before .before .before .before .link2 .ensures) (parts.by-letter z (c .before .before .before .before .before .before .before .before .before .before .before .before .plan-kind .ensures) (c .before .before .before .before .before .before .before .before .before .before .enum-told5 .given .1)) (c .before .before .before .before .before .before .before .put-letter4 .ensures) (c .before .before .before .before .step-plan3 .ensures .1) (c .before .step-plan4 .ensures .1))
+
+step-plan-returns-7 : (t : ℕ) → step-plan-lts.Need-returns-7 (step-plan-calls t) (step-plan-at t) step-plan.Post
+step-plan-returns-7 t c =
+    let y = c .before .before .before .before .before .before .before .before .before .before .pre .1 .1 in
+    let i = parts.by-letter y (c .before .before .before .before .before .before .before .before .before .plan-kind .ensures) (c .before .before .before .before .before .before .before .enum-told6 .given .1) in
+    let o = parts.within-order y i (c .before .before .before .before .before .before .link3 .ensures) (c .before .before .before .before .before .link4 .ensures) in (
+      omega (arith, o .0, o .1, o .2, c .before .step-plan5 .ensures .0),
+      λ z. let j = parts.by-letter z (c .before .before .before .before .before .before .before .before .before .plan-kind .ensures) (c .before .before .before .before .before .before .before .enum-told6 .given .1) in
+          arms.held-arm z j (sym (parts.tested z j (parts.early (c .before .before .before .before .before .before .before .before .before .before .pre .1 .0)) .2) ∙ sym (c .before .before .before .before .test-holds .ensures) ∙ c .before .before .before .if2 .taken) (c .before .before .before .before .before .before .link3 .ensures) (c .before .before .before .before .before .link4 .ensures) (c .before .step-plan5 .ensures .1),
+    )
+
+step-plan-returns-8 : (t : ℕ) → step-plan-lts.Need-returns-8 (step-plan-calls t) (step-plan-at t) step-plan.Post
+step-plan-returns-8 t c =
+    let y = c .before .before .before .before .before .before .before .before .before .before .before .before .before .pre .1 .1 in
+    let i = parts.by-letter y (c .before .before .before .before .before .before .before .before .before .before .before .before .plan-kind .ensures) (c .before .before .before .before .before .before .before .before .before .before .enum-told6 .given .1) in
+    let o = parts.within-order y i (c .before .before .before .before .before .before .before .before .before .link3 .ensures) (c .before .before .before .before .before .before .before .before .link4 .ensures) in (
+      omega (arith, o .0, o .1, o .2, c .before .step-plan6 .ensures .0),
+      λ z. let j = parts.by-letter z (c .before .before .before .before .before .before .before .before .before .before .before .before .plan-kind .ensures) (c .before .before .before .before .before .before .before .before .before .before .enum-told6 .given .1) in
+          arms.missed-arm z j (sym (parts.tested z j (parts.early (c .before .before .before .before .before .before .before .before .before .before .before .before .before .pre .1 .0)) .2) ∙ sym (c .before .before .before .before .before .before .before .test-holds .ensures) ∙ c .before .before .before .before .before .before .if2 .left) (c .before .before .before .before .before .before .before .before .before .link3 .ensures) (c .before .before .before .before .before .before .before .before .link4 .ensures) (c .before .before .before .before .before .delay2 .ensures) (sym (c .before .before .before .before .due2 .ensures) ∙ c .before .before .before .if3 .taken) (c .before .step-plan6 .ensures .1),
+    )
+
+step-plan-returns-9 : (t : ℕ) → step-plan-lts.Need-returns-9 (step-plan-calls t) (step-plan-at t) step-plan.Post
+step-plan-returns-9 t c =
+    let y = c .before .before .before .before .before .before .before .before .before .before .before .before .before .pre .1 .1 in (
+      omega (arith, parts.inside y .0, c .before .keep-waiting2 .ensures .counted),
+      λ z. let j = parts.by-letter z (c .before .before .before .before .before .before .before .before .before .before .before .before .plan-kind .ensures) (c .before .before .before .before .before .before .before .before .before .before .enum-told6 .given .1) in
+          arms.within-arm z j (sym (parts.tested z j (parts.early (c .before .before .before .before .before .before .before .before .before .before .before .before .before .pre .1 .0)) .2) ∙ sym (c .before .before .before .before .before .before .before .test-holds .ensures) ∙ c .before .before .before .before .before .before .if2 .left) (c .before .before .before .before .before .delay2 .ensures) (sym (c .before .before .before .before .due2 .ensures) ∙ c .before .before .before .if3 .left) (c .before .keep-waiting2 .ensures),
+    )
+
+step-plan-returns-10 : (t : ℕ) → step-plan-lts.Need-returns-10 (step-plan-calls t) (step-plan-at t) step-plan.Post
+step-plan-returns-10 t c =
+    let y = c .before .before .before .pre .1 .1 in
+    absurd (parts.by-letter y (c .before .before .plan-kind .ensures) (c .enum-told7 .given .1))
+
+step-plan-part : {M : Type 1} (t : ℕ) → step-plan-lts.Closed (step-plan-calls t) (step-plan-at t) step-plan.Post M
+step-plan-part t =
+    step-plan-lts.spec (step-plan-calls t) (step-plan-at t) step-plan.Post
+    (step-plan-plan-kind-requires t)
+    (λ c. search needs)
+    (step-plan-put-letter-requires t)
+    (λ c. search needs)
+    (step-plan-put-letter-requires-2 t)
+    (λ c. search needs)
+    (step-plan-link-requires t)
+    (step-plan-put-letter-requires-3 t)
+    (step-plan-add-step-rows t)
+    (step-plan-step-rows-requires t)
+    (step-plan-sub-step-plan t)
+    (step-plan-step-plan-requires t)
+    (λ c. search needs)
+    (step-plan-delay-requires t)
+    (λ c κs. search needs)
+    (step-plan-add-step-plan t)
+    (step-plan-sub-step-plan-2 t)
+    (step-plan-step-plan-requires-2 t)
+    (step-plan-keep-waiting-requires t)
+    (λ c. search needs)
+    (step-plan-link-requires-2 t)
+    (step-plan-put-letter-requires-4 t)
+    (step-plan-add-step-plan-2 t)
+    (step-plan-sub-step-plan-3 t)
+    (step-plan-step-plan-requires-3 t)
+    (step-plan-sub-step-plan-4 t)
+    (step-plan-step-plan-requires-4 t)
+    (λ c. search needs)
+    (step-plan-link-requires-3 t)
+    (step-plan-link-requires-4 t)
+    (step-plan-add-test-holds t)
+    (step-plan-test-holds-requires t)
+    (step-plan-sub-step-plan-5 t)
+    (step-plan-step-plan-requires-5 t)
+    (step-plan-delay-requires-2 t)
+    (λ c κs. search needs)
+    (step-plan-sub-step-plan-6 t)
+    (step-plan-step-plan-requires-6 t)
+    (step-plan-keep-waiting-requires-2 t)
+    (λ c. search needs)
+    (λ c. search needs)
+    (step-plan-returns t)
+    (λ c. search needs)
+    (step-plan-returns-2 t)
+    (λ c. search needs)
+    (step-plan-returns-3 t)
+    (λ c. search needs)
+    (step-plan-returns-4 t)
+    (λ c. search needs)
+    (step-plan-returns-5 t)
+    (λ c. search needs)
+    (step-plan-returns-6 t)
+    (λ c. search needs)
+    (step-plan-returns-7 t)
+    (λ c. search needs)
+    (step-plan-returns-8 t)
+    (λ c. search needs)
+    (step-plan-returns-9 t)
+    (step-plan-returns-10 t)
+
+pub +step-plan-spec : {M : Type 1} → statement M
++step-plan-spec = close μ-step-plan step-plan-part

@@ -1,0 +1,49 @@
+use lib.IntN.{predℤ}
+use mathlib.Core.Path.{_∙_, ap, refl, subst, sym}
+use native.Mathlib.Omega.{arith}
+use Prim.Native.Nat.{_<_}
+use Rattle.copies.proofs.Appending.{appended-as, appended-then, row-of}
+use Rattle.nodes.specs.Table.{natOf}
+use borrow.Author.Needs.{needs}
+use Rattle.steps.proofs.keep_waiting.Statement.{statement}
+use Rattle.steps.proofs.keep_waiting.Tie as tie
+
+delay-requires : tie.Need-delay-requires
+delay-requires c κs = search needs
+
+earlier-requires : tie.Need-earlier-requires
+earlier-requires c κs =
+    subst (λ z. 0 < natOf z) (sym (c .delay .ensures)) (c .before .before .pre .3)
+
+put-delay-requires : tie.Need-put-delay-requires
+put-delay-requires c κs = search needs
+
+add-restore-rows : tie.Need-add-restore-rows
+add-restore-rows c = search needs
+
+restore-rows-requires : tie.Need-restore-rows-requires
+restore-rows-requires c κs = search needs
+
+same-length : tie.Need-same-length
+same-length c = search needs
+
+returns : tie.Need-returns
+returns c =
+    let p = c .before .before .before .before .put-delay .ensures in
+    let q = c .before .restore-rows .ensures in
+    record {
+      counted = omega (arith, q .counted, p .ends, c .before .before .before .before .before .before .before .before .pre .1);
+      added = appended-then (appended-as (row-of refl (c .before .before .before .before .before .earlier .ensures ∙ ap predℤ (c .before .before .before .before .before .before .delay .ensures)) refl refl refl) p) (q .added);
+    }
+
+pub keep-waiting-spec : {M : Type 1} → statement M
+keep-waiting-spec =
+    tie.close
+    (tie.spec
+    delay-requires
+    earlier-requires
+    put-delay-requires
+    add-restore-rows
+    restore-rows-requires
+    same-length
+    returns)

@@ -1,0 +1,4 @@
+-- The month step in the node table.
+pub mod Offsets
+pub mod Ready
+pub mod Waits

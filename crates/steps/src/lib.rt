@@ -1,0 +1,218 @@
+// The month step: the plan for tomorrow, from the table in which index readings are resolved into a second table.
+ghost use Prim.Native.Nat.{_*_, _+_, _-_, _<_, _≤_};
+ghost use lib.ListN.{length};
+ghost use Rattle.amounts.specs.Fine.{MonthIn};
+ghost use Rattle.copies.specs.Appended.{Appended};
+ghost use Rattle.copies.specs.Copied.{Copied};
+ghost use Rattle.copies.specs.Plain.{plainRows};
+ghost use Rattle.language.specs.Payments.Step.{step};
+ghost use Rattle.language.specs.Calls.{lookupOf};
+ghost use Rattle.language.specs.Rules.Settings.{closed};
+ghost use Rattle.language.specs.Text.Letters.{planForm};
+ghost use Rattle.language.specs.Text.Plans.{planTrees};
+ghost use Rattle.language.specs.Text.Reader.{end};
+ghost use Rattle.nodes.specs.Table.{natOf, slotAt};
+ghost use Rattle.places.specs.Place.{SpanIn};
+ghost use Rattle.steps.specs.Offsets.{restoreRow, stepRow};
+ghost use Rattle.steps.specs.Ready.{Ready};
+ghost use Rattle.steps.specs.Waits.{Waits};
+ghost use Rattle.tables.specs.Lookup.{Kept, readTable};
+use integers::Month;
+use measures::node;
+use nodes::PlanLetter;
+use tables::Span;
+
+pub mod offsets;
+pub mod rows;
+
+// The rows from node `from` up to node `to`, each `O` with its offset again.
+pub fn restore_rows(
+    nodes: &[i64; 2560],
+    span: Span,
+    out: &mut [i64],
+    count: usize,
+    from: usize,
+    to: usize,
+) -> usize
+    requires { ⌜ SpanIn (span .h) (span .f) × (from ≤ to) × (to ≤ 512) × (5 * (count + (to - from)) ≤ length (now out)) ⌝ }
+    ensures { λ r. ⌜ Copied (restoreRow (span .h) (span .f)) (now (nodes .entry)) from to (now (out .entry)) (now (out .exit)) count r ⌝ }
+{
+    let mut next = count;
+    let mut at = from;
+    while at < to {
+        next = rows::restore_row(nodes, span, out, next, at);
+        at += 1;
+    }
+    next
+}
+
+// The rows of an amount, stepped.
+pub fn step_rows(
+    nodes: &[i64; 2560],
+    values: &[i64],
+    bounds: &[i64],
+    span: Span,
+    today: Month,
+    out: &mut [i64],
+    count: usize,
+    from: usize,
+    to: usize,
+) -> usize
+    requires { ⌜ SpanIn (span .h) (span .f) × Kept (span .h) (span .f) (now bounds) (now values) × MonthIn (today .0) × (from ≤ to) × (to ≤ 512) × (5 * (count + (to - from)) ≤ length (now out)) ⌝ }
+    ensures { λ r. ⌜ Copied (stepRow (readTable (span .h) (span .f) (now (bounds .entry)) (now (values .entry))) (natOf (today .0))) (now (nodes .entry)) from to (now (out .entry)) (now (out .exit)) count r ⌝ }
+{
+    let mut next = count;
+    let mut at = from;
+    while at < to {
+        next = rows::step_row(nodes, values, bounds, span, today, out, next, at);
+        at += 1;
+    }
+    next
+}
+
+// A waiting node and all that stands beneath it: the delay falls by one.
+fn keep_waiting(
+    nodes: &[i64; 2560],
+    span: Span,
+    out: &mut [i64],
+    count: usize,
+    at: usize,
+    to: usize,
+) -> usize
+    requires { ⌜ SpanIn (span .h) (span .f) × (at < to) × (to ≤ 512) × (0 < natOf (slotAt (now nodes) at 1)) × (5 * (count + (to - at)) ≤ length (now out)) ⌝ }
+    ensures { λ r. ⌜ Waits (span .h) (span .f) (now (nodes .entry)) at to (now (out .entry)) (now (out .exit)) count r ⌝ }
+{
+    let next = rows::put_delay(
+        nodes,
+        out,
+        count,
+        at,
+        offsets::earlier(node::delay(nodes, at)),
+    );
+    restore_rows(nodes, span, out, next, at + 1, to)
+}
+
+// The step of the plan that stands in the rows from node `at` up to node `to`, its root in month `today`.
+pub fn step_plan(
+    nodes: &[i64; 2560],
+    values: &[i64],
+    bounds: &[i64],
+    span: Span,
+    today: Month,
+    out: &mut [i64],
+    count: usize,
+    at: usize,
+    to: usize,
+    left: usize,
+) -> usize
+    requires { ⌜ MonthIn (today .0) × Ready (span .h) (span .f) (now bounds) (now values) (natOf (today .0)) (now nodes) at to left × (5 * (count + (to - at)) ≤ length (now out)) ⌝ }
+    ensures { λ r. ⌜ (r + at ≤ count + to) × ((y : Ready (span .h) (span .f) (now (bounds .entry)) (now (values .entry)) (natOf (today .0)) (now (nodes .entry)) at to left)
+        → Appended (now (out .entry)) (now (out .exit)) count r (plainRows planForm (planTrees (closed (step (lookupOf (readTable (span .h) (span .f) (now (bounds .entry)) (now (values .entry)))) (natOf (today .0)) (y .plan))) end))) ⌝ }
+{
+    let letter = node::plan_kind(nodes, at);
+    match letter {
+        PlanLetter::Nothing => copies::put_letter(out, count, 90),
+        PlanLetter::Transfer => copies::put_letter(out, count, 90),
+        PlanLetter::Scale => {
+            let second = nodes::link(nodes, at, 3);
+            let a = copies::put_letter(out, count, 83);
+            let b = step_rows(nodes, values, bounds, span, today, out, a, at + 1, second);
+            step_plan(
+                nodes,
+                values,
+                bounds,
+                span,
+                today,
+                out,
+                b,
+                second,
+                to,
+                left - 1,
+            )
+        }
+        PlanLetter::Later => {
+            let d = node::delay(nodes, at);
+            if offsets::due(d) {
+                step_plan(
+                    nodes,
+                    values,
+                    bounds,
+                    span,
+                    today,
+                    out,
+                    count,
+                    at + 1,
+                    to,
+                    left - 1,
+                )
+            } else {
+                keep_waiting(nodes, span, out, count, at, to)
+            }
+        }
+        PlanLetter::Both => {
+            let second = nodes::link(nodes, at, 3);
+            let a = copies::put_letter(out, count, 66);
+            let b = step_plan(
+                nodes,
+                values,
+                bounds,
+                span,
+                today,
+                out,
+                a,
+                at + 1,
+                second,
+                left - 1,
+            );
+            step_plan(
+                nodes,
+                values,
+                bounds,
+                span,
+                today,
+                out,
+                b,
+                second,
+                to,
+                left - 1,
+            )
+        }
+        PlanLetter::Within => {
+            let second = nodes::link(nodes, at, 3);
+            let third = nodes::link(nodes, at, 4);
+            if amounts::test_holds(nodes, values, today, at + 1, 512) {
+                step_plan(
+                    nodes,
+                    values,
+                    bounds,
+                    span,
+                    today,
+                    out,
+                    count,
+                    second,
+                    third,
+                    left - 1,
+                )
+            } else {
+                let wait = node::delay(nodes, at);
+                if offsets::due(wait) {
+                    step_plan(
+                        nodes,
+                        values,
+                        bounds,
+                        span,
+                        today,
+                        out,
+                        count,
+                        third,
+                        to,
+                        left - 1,
+                    )
+                } else {
+                    keep_waiting(nodes, span, out, count, at, to)
+                }
+            }
+        }
+        PlanLetter::NoPlan => count,
+    }
+}
