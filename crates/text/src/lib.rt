@@ -5,6 +5,7 @@ ghost use Rattle.language.specs.Text.Letters.{planForm, payoffForm};
 ghost use Rattle.language.specs.Text.Reader.{readText};
 ghost use Rattle.text.specs.Letters.{formOf};
 ghost use Rattle.text.specs.ReadInto.{CountIs, ReadInto};
+ghost use Rattle.text.specs.Refusals.{numberOf};
 
 mod fields;
 mod letters;
@@ -34,6 +35,28 @@ pub enum Refusal {
     Caller,
     NoRoom,
     OutOfRange,
+}
+
+// Document 01's number of a refusal.
+pub fn number_of(refusal: Refusal) -> u8
+    ensures { λ r. ⌜ r ≡ numberOf refusal ⌝ }
+{
+    match refusal {
+        Refusal::TooLong => 1,
+        Refusal::NotOfForm => 2,
+        Refusal::TooManyNodes => 3,
+        Refusal::TooDeep => 4,
+        Refusal::WrongKind => 5,
+        Refusal::Magnitude => 6,
+        Refusal::NotInTime => 7,
+        Refusal::Settings => 8,
+        Refusal::Table => 9,
+        Refusal::Length => 10,
+        Refusal::Reads => 11,
+        Refusal::Caller => 12,
+        Refusal::NoRoom => 13,
+        Refusal::OutOfRange => 14,
+    }
 }
 
 // The number of nodes that were read, or the refusal.
