@@ -97,7 +97,7 @@ module _ {days : List ℤ} {h f : ℤ} {factors bounds values : List ℤ} {today
   abbrev y : Plan ℕ
   y = fill (settingAt days) x
 
-  formed : Formed filledInForm y
+  pub formed : Formed filledInForm y
   formed = fill-formed (w .stood) days (a .passed .settings)
 
   -- ---- what placing, paying and stepping ask
@@ -121,7 +121,7 @@ module _ {days : List ℤ} {h f : ℤ} {factors bounds values : List ℤ} {today
     passed-over : placed ≡ mapRows (placeRow h f) (countOf (planTrees (closed y) end)) after
     passed-over = e ∙ ap (λ n. mapRows (placeRow h f) n after) (st .counted)
 
-    found : Finds (planAt natOf 32 placed 0) (placedPlan (placeIn t) y) (PlanStands 32 placed 0)
+    pub found : Finds (planAt natOf 32 placed 0) (placedPlan (placeIn t) y) (PlanStands 32 placed 0)
     found = pass-found y formed (drop (5 * count) after) after (whole st) h f placed passed-over
 
     pub stands : PlanStands 32 placed 0

@@ -1,0 +1,1 @@
+-- Laws about the sheet's answers.

@@ -1,0 +1,2 @@
+-- The sheet's answers.
+pub mod Answers

@@ -1,0 +1,90 @@
+// The sheet as a call on bytes.
+ghost use mathlib.Core.Path.{_≡_};
+ghost use Prim.Native.Nat.{_≤_};
+ghost use lib.IntN.{pos};
+ghost use lib.ListN.{length};
+ghost use Rattle.language.specs.Calls.{pairOk};
+ghost use Rattle.language.specs.Sheet.{sheetCall};
+ghost use Rattle.language.specs.Text.Trees.{Delay, Plan};
+ghost use Rattle.rules.specs.Answers.{givenOf};
+ghost use Rattle.rules.specs.Standing.{Standing, Stands};
+ghost use Rattle.sheets.specs.Answers.{answerInto, refusalInto};
+ghost use Rattle.text.specs.Refusals.{numberOf};
+ghost use Rattle.writer.specs.Answers.{writtenAnswer};
+use columns::remaining;
+use integers::Month;
+use integers::Pence;
+use lines::Sheet;
+use lines::Sheeting;
+use pays::Pair;
+use rules::Checking;
+use tables::Span;
+use text::Reading;
+use text::Refusal;
+use writer::Written;
+
+// The line of a refused sheet.
+pub fn refuse(refusal: Refusal, out: &mut [u8]) -> Written
+    ensures { λ r. ⌜ (now (out .exit) ≡ refusalInto (numberOf refusal) (now (out .entry)) .buffer)
+        × (writtenAnswer r ≡ refusalInto (numberOf refusal) (now (out .entry)) .answer) ⌝ }
+{
+    let number = [text::number_of(refusal) as i64];
+    printing::write_refusal(&number, out)
+}
+
+// The answer for a plan that was read: accepted first, then paid month by month, and what is left from each month on.
+pub fn answer(
+    nodes: &mut [i64; 2560],
+    count: usize,
+    days: &[i64],
+    span: Span,
+    factors: &[i64],
+    bounds: &[i64],
+    values: &[i64],
+    pair: Pair,
+    asked: bool,
+    out: &mut [u8],
+) -> Written
+    requires { ⌜ Stands (now nodes) count × (asked ≡ pairOk (pair .p) (pair .q)) ⌝ }
+    ensures { λ r. ⌜ ((x : Plan Delay) → Standing (now (nodes .entry)) count x
+        → (now (out .exit) ≡ answerInto
+        (givenOf (now (days .entry)) (span .h) (span .f) (now (factors .entry)) (now (bounds .entry)) (now (values .entry)))
+        (pair .p) (pair .q) x (now (out .entry)) .buffer)
+        × (writtenAnswer r ≡ answerInto
+        (givenOf (now (days .entry)) (span .h) (span .f) (now (factors .entry)) (now (bounds .entry)) (now (values .entry)))
+        (pair .p) (pair .q) x (now (out .entry)) .answer)) ⌝ }
+{
+    let checking = rules::accept(
+        nodes,
+        count,
+        days,
+        span,
+        factors,
+        bounds,
+        values,
+        Month(0),
+        asked,
+    );
+    match checking {
+        Checking::Accepted(length, magnitude) => {
+            places::place_rows(nodes, count, span);
+            let mut column = [0i64; 601];
+            columns::plan_column(
+                nodes,
+                values,
+                Month(0),
+                pair,
+                Pence(1),
+                &mut column,
+                0,
+                32,
+            );
+            let mut rest = [0i64; 601];
+            let months = span.f as usize + 1;
+            remaining::add_back(factors, &column, &mut rest, months);
+            let head = [length.0, magnitude.0];
+            printing::write_answer(&head, &column, &rest, months, out)
+        }
+        Checking::Refused(refusal) => refuse(refusal, out),
+    }
+}
