@@ -1,0 +1,3 @@
+-- Laws of evaluation.
+pub mod Combined
+pub mod RowAnswers

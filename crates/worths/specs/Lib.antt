@@ -1,0 +1,3 @@
+-- What evaluation answers, and what it asks of the node table and the table.
+pub mod Answers
+pub mod Ranges
