@@ -1,9 +1,9 @@
 -- What one row answers.
-use Prim.Native.Nat.{_≤_, ℕ}
+use Prim.Native.Nat.{ℕ}
 use lib.Dec.{T}
-use lib.IntN.{_+ℤ_, natAbs, negsuc, pos, ℤ}
+use lib.IntN.{_+ℤ_, negsuc, pos, ℤ}
 use lib.Signed.{ltZ, nonNeg}
-use mathlib.Core.Bool.{Bool, cond, false, true, true≢false}
+use mathlib.Core.Bool.{cond, false, true, true≢false}
 use mathlib.Core.List.{List}
 use mathlib.Core.Path.{_∙_, _≡_, ap, ap₂, refl, sym}
 use mir.Facts.{toZ-ofZ}
@@ -30,7 +30,6 @@ use Rattle.tables.specs.declared.lookup.Found.the-variants as found
 use Rattle.text.specs.declared.Refusal.the-variants as refusal
 use Rattle.worths.specs.Answers.{dividedBy, valuedAnswer}
 use Rattle.worths.specs.Ranges.{Near, Readable, Waited}
-use Rattle.worths.specs.declared.answers.Valued.{Valued}
 use Rattle.worths.specs.declared.answers.Valued.the-variants as valued
 
 -- ---- a label: x is a local that reads the field y

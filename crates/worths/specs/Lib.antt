@@ -1,3 +1,4 @@
 -- What evaluation answers, and what it asks of the node table and the table.
 pub mod Answers
+pub mod Checked
 pub mod Ranges

@@ -6,10 +6,6 @@ use Rattle.nodes.specs.Letters.{payoffLetter}
 use borrow.Author.Needs.{needs}
 use Rattle.worths.proofs.rows.letter.Statement.{statement}
 use Rattle.worths.proofs.rows.letter.Tie as tie
-use Rattle.worths.proofs.rows.letter.Reads as reads
-use Rattle.worths.proofs.rows.letter.Lts as lts
-use Rattle.nodes.proofs.payoff_letter.Reads as payoff-letter-reads
-use Rattle.nodes.proofs.slot.Reads as slot-reads
 
 slot-requires : tie.Need-slot-requires
 slot-requires c κs = search needs
@@ -18,7 +14,7 @@ payoff-letter-requires : tie.Need-payoff-letter-requires
 payoff-letter-requires c κs = search needs
 
 returns : tie.Need-returns
-returns c = 
+returns c =
     let f : SFits w64 (c .before .slot .result) = search needs in
     c .payoff-letter .ensures ∙ ap payoffLetter (toZ-ofZ f ∙ c .before .slot .ensures)
 

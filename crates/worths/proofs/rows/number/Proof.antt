@@ -5,9 +5,6 @@ use Rattle.language.specs.Limits.{maxAmount}
 use borrow.Author.Needs.{needs}
 use Rattle.worths.proofs.rows.number.Statement.{statement}
 use Rattle.worths.proofs.rows.number.Tie as tie
-use Rattle.worths.proofs.rows.number.Reads as reads
-use Rattle.worths.proofs.rows.number.Lts as lts
-use Rattle.amounts.proofs.rows.number.Reads as number-reads
 
 number-requires : tie.Need-number-requires
 number-requires c κs = search needs

@@ -4,9 +4,6 @@ use Rattle.worths.specs.Answers.{SmallValued, valuedAnswer}
 use borrow.Author.Needs.{needs}
 use Rattle.worths.proofs.rows.over.Statement.{statement}
 use Rattle.worths.proofs.rows.over.Tie as tie
-use Rattle.worths.proofs.rows.over.Reads as reads
-use Rattle.worths.proofs.rows.over.Lts as lts
-use Rattle.amounts.proofs.rows.over.Reads as over-reads
 
 enum-known-x : tie.Need-enum-known-x
 enum-known-x c = search needs

@@ -1,20 +1,13 @@
-use mathlib.Core.Path.{refl}
 use Rattle.worths.proofs.RowAnswers as rows
 use borrow.Author.Needs.{needs}
 use Rattle.worths.proofs.rows.reading.Statement.{statement}
 use Rattle.worths.proofs.rows.reading.Tie as tie
-use Rattle.worths.proofs.rows.reading.Reads as reads
-use Rattle.worths.proofs.rows.reading.Lts as lts
-use Rattle.integers.proofs.later.Reads as later-reads
-use Rattle.tables.proofs.lookup.lookup.Reads as lookup-reads
-use Rattle.worths.proofs.rows.label.Reads as label-reads
-use Rattle.worths.proofs.rows.month_at.Reads as month-at-reads
 
 month-at-requires : tie.Need-month-at-requires
 month-at-requires c κs = search needs
 
 later-requires : tie.Need-later-requires
-later-requires c κs = 
+later-requires c κs =
     let s = c .before in
     let a = s .args in
     (rows.waited-small (s .pre .2), rows.near-small (s .pre .3) (c .month-at .ensures))
@@ -23,7 +16,7 @@ label-requires : tie.Need-label-requires
 label-requires c κs = search needs
 
 lookup-requires : tie.Need-lookup-requires
-lookup-requires c κs = 
+lookup-requires c κs =
     let s = c .before .before .before in
     let a = s .args in
     (s .pre .1 .kept, rows.read-small (a .span .h) (a .span .f) (a .bounds .now) (a .values .now) (s .pre .1) (a .waited .0) _ (s .pre .2) (s .pre .3) (c .before .later .ensures) (c .before .before .month-at .ensures))
@@ -35,13 +28,13 @@ enum-told : tie.Need-enum-told
 enum-told c = search needs
 
 returns : tie.Need-returns
-returns c = 
+returns c =
     let s = c .before .before .before .before .before .before .before in
     let a = s .args in
     rows.read-found (a .span .h) (a .span .f) (a .bounds .now) (a .values .now) (s .pre .1) (a .waited .0) _ (s .pre .2) (s .pre .3) (c .before .before .before .before .label .ensures) (c .before .before .before .before .before .later .ensures) (c .before .before .before .before .before .before .month-at .ensures) _ (c .before .before .before .lookup .ensures) _ (c .before .found .given .1)
 
 returns-2 : tie.Need-returns-2
-returns-2 c = 
+returns-2 c =
     let s = c .before .before .before .before .before .before in
     let a = s .args in
     rows.read-outside (a .span .h) (a .span .f) (a .bounds .now) (a .values .now) (s .pre .1) (a .waited .0) _ (s .pre .2) (s .pre .3) (c .before .before .before .label .ensures) (c .before .before .before .before .later .ensures) (c .before .before .before .before .before .month-at .ensures) _ (c .before .before .lookup .ensures) (c .enum-told .given .1)
