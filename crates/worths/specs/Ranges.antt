@@ -1,5 +1,5 @@
 -- What evaluation may rely on: months that can be added, values and factors within their limits.
-use Prim.Native.Nat.{_+_, _≤_, ℕ}
+use Prim.Native.Nat.{_*_, _+_, _≤_, ℕ}
 use lib.Dec.{T}
 use lib.IntN.{natAbs, pos, ℤ}
 use lib.ListN.{getD, length}
@@ -21,6 +21,11 @@ pub record Near (month : ℤ) : Type 0 where
 pub record Waited (month : ℤ) : Type 0 where
   pub known : T (nonNeg month)
   pub within : natOf month ≤ maxMonth
+
+-- the same, so that each of the levels left may wait 600 more
+pub record WaitedAt (left : ℕ) (month : ℤ) : Type 0 where
+  pub known : T (nonNeg month)
+  pub within : natOf month + 600 * left ≤ maxMonth
 
 -- the fields of a filled payoff are in range
 unfoldable pub InRange : Payoff ℕ ℤ → Type 0

@@ -16,7 +16,10 @@ use nodes::TestLetter;
 use tables::Span;
 
 pub mod answers;
+pub mod leaf;
+pub mod payoffs;
 pub mod rows;
+pub mod wait;
 
 // The amount at a node, with some months waited: a number or an index without a call.
 pub fn checked_operand(
