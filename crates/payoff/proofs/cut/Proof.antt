@@ -7,6 +7,12 @@ use Rattle.payoff.proofs.Texts.{cut-is, few, kept, refusal-is}
 use Rattle.text.specs.ReadInto.{ReadInto}
 use Rattle.payoff.proofs.cut.Statement.{statement}
 use Rattle.payoff.proofs.cut.Tie as tie
+use Rattle.payoff.proofs.cut.Reads as reads
+use Rattle.payoff.proofs.cut.Lts as lts
+use Rattle.payoff.proofs.cut_rows.Reads as cut-rows-reads
+use Rattle.payoff.proofs.told.Reads as told-reads
+use Rattle.text.proofs.read_payoff.Reads as read-payoff-reads
+use Rattle.writer.proofs.write_text.Reads as write-text-reads
 
 slice-aggregate-read-payoff : tie.Need-slice-aggregate-read-payoff
 slice-aggregate-read-payoff c = search needs

@@ -8,6 +8,8 @@ use Rattle.nodes.proofs.Signed.{key, no-key}
 use Rattle.payoff.proofs.Cuts.{row-cut, row-whole}
 use Rattle.payoff.proofs.cut_row.Statement.{statement}
 use Rattle.payoff.proofs.cut_row.Tie as tie
+use Rattle.payoff.proofs.cut_row.Reads as reads
+use Rattle.payoff.proofs.cut_row.Lts as lts
 
 mul-letter : tie.Need-mul-letter
 mul-letter c = search needs

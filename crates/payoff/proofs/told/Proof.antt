@@ -4,6 +4,8 @@ use Rattle.payoff.specs.Answers.{writingAnswer}
 use Rattle.writer.specs.Answers.{writtenAnswer}
 use Rattle.payoff.proofs.told.Statement.{statement}
 use Rattle.payoff.proofs.told.Tie as tie
+use Rattle.payoff.proofs.told.Reads as reads
+use Rattle.payoff.proofs.told.Lts as lts
 
 enum-known-written : tie.Need-enum-known-written
 enum-known-written c = search needs
