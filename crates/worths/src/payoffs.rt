@@ -104,13 +104,13 @@ pub fn payoff_worth(
                     nodes::link(nodes, at, 3),
                     left - 1,
                 ),
-                Wait::Missed(k) => payoff_worth(
+                Wait::Missed(last) => payoff_worth(
                     nodes,
                     factors,
                     values,
                     bounds,
                     span,
-                    k,
+                    last,
                     start,
                     pair,
                     nodes::link(nodes, at, 4),
