@@ -21,7 +21,7 @@ pub mod payoffs;
 pub mod rows;
 pub mod wait;
 
-// The amount at a node, with some months waited: a number or an index without a call.
+// The amount at a node, with some months waited: a number without a call.
 pub fn checked_operand(
     nodes: &[i64; 2560],
     values: &[i64],
@@ -37,7 +37,6 @@ pub fn checked_operand(
     let x = nodes::slot(nodes, at, 0);
     match x {
         78 => rows::number(nodes, at),
-        79 => rows::reading(nodes, values, bounds, span, waited, at),
         _ => checked_value(nodes, values, bounds, span, waited, at, left),
     }
 }

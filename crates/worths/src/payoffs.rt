@@ -46,7 +46,7 @@ pub fn payoff_worth(
         PayoffLetter::Uncut => leaf::leaf_worth(nodes, factors, span, waited, Month(0), pair, at),
         PayoffLetter::Cut => leaf::leaf_worth(nodes, factors, span, waited, start, pair, at),
         PayoffLetter::Times => {
-            let a = crate::checked_operand(nodes, values, bounds, span, waited, at + 1, 512);
+            let a = crate::checked_value(nodes, values, bounds, span, waited, at + 1, 512);
             let x = payoff_worth(
                 nodes,
                 factors,

@@ -1,6 +1,5 @@
 use lib.IntN.{pos}
-use lib.ListN.{length}
-use mathlib.Core.Path.{_∙_, _≡_, subst, sym}
+use mathlib.Core.Path.{_∙_, subst, sym}
 use Rattle.language.specs.Calls.{pairOk}
 use Rattle.language.specs.Text.Number.{between}
 use native.Mathlib.Omega.{arith}
@@ -24,9 +23,7 @@ settings-ok-requires c κs = search needs
 settle-rows-requires : tie.Need-settle-rows-requires
 settle-rows-requires c κs =
     let s = c .before .before .before .before .before .before .before in
-    let a = s .args in
     let e = sym (c .before .before .settings-ok .ensures) ∙ c .before .if3 .taken in
-    let l : length (a .nodes .now) ≡ 2560 = search needs in
     (omega (arith, evaluations.standing-rows (s .pre .standing)), e, evaluations.standing-in (s .pre .standing))
 
 enum-told : tie.Need-enum-told

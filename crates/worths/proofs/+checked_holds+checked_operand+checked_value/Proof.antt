@@ -4,7 +4,7 @@ use mathlib.Core.Path.{_∙_, _≡_, ap, refl, sym}
 use mir.Syntax.{w64}
 use mir.Val.{SFits}
 use native.Mathlib.Omega.{arith}
-use Rattle.amounts.proofs.Nodes.{amount-inside, index-key, number-key, test-inside}
+use Rattle.amounts.proofs.Nodes.{amount-inside, number-key, test-inside}
 use Rattle.language.specs.Text.Form.{fieldsOfAmount, fieldsOfTest}
 use Rattle.worths.proofs.Bounds.{valued-small}
 use Rattle.worths.proofs.CheckedNodes.{AmountNode, TestNode, amount-node, test-node}
@@ -102,13 +102,11 @@ checked-holds-slot-requires t c κs = (test-inside _ _ _ (c .pre .1 .2), omega a
 
 checked-holds-add-checked-operand : (t : ℕ) → checked-holds-lts.Need-add-checked-operand (checked-holds-calls t) (checked-holds-at t) checked-holds.Post
 checked-holds-add-checked-operand t c =
-    let s = c .before .before .before .before in
     let n = checked-holds-here t (c .before .before) test.Less (c .enum-told .given .1) in
     record { fits = omega (arith, n .inside) }
 
 checked-holds-sub-checked-operand : (t : ℕ) → checked-holds-lts.Need-sub-checked-operand (checked-holds-calls t) (checked-holds-at t) checked-holds.Post
 checked-holds-sub-checked-operand t c =
-    let s = c .before .before .before .before in
     let n = checked-holds-here t (c .before .before) test.Less (c .enum-told .given .1) in
     omega (arith, n .some)
 
@@ -121,13 +119,11 @@ checked-holds-checked-operand-requires t c κs =
 
 checked-holds-link-requires : (t : ℕ) → checked-holds-lts.Need-link-requires (checked-holds-calls t) (checked-holds-at t) checked-holds.Post
 checked-holds-link-requires t c κs =
-    let s = c .before .before .before .before .before in
     let n = checked-holds-here t (c .before .before .before) test.Less (c .before .enum-told .given .1) in
     (n .inside, omega arith, n .stands .1 .0)
 
 checked-holds-sub-checked-operand-2 : (t : ℕ) → checked-holds-lts.Need-sub-checked-operand-2 (checked-holds-calls t) (checked-holds-at t) checked-holds.Post
 checked-holds-sub-checked-operand-2 t c =
-    let s = c .before .before .before .before .before .before in
     let n = checked-holds-here t (c .before .before .before .before) test.Less (c .before .before .enum-told .given .1) in
     omega (arith, n .some)
 
@@ -140,13 +136,11 @@ checked-holds-checked-operand-requires-2 t c κs =
 
 checked-holds-add-checked-operand-2 : (t : ℕ) → checked-holds-lts.Need-add-checked-operand-2 (checked-holds-calls t) (checked-holds-at t) checked-holds.Post
 checked-holds-add-checked-operand-2 t c =
-    let s = c .before .before .before .before in
     let n = checked-holds-here t (c .before .before) test.Equal (c .enum-told2 .given .1) in
     record { fits = omega (arith, n .inside) }
 
 checked-holds-sub-checked-operand-3 : (t : ℕ) → checked-holds-lts.Need-sub-checked-operand-3 (checked-holds-calls t) (checked-holds-at t) checked-holds.Post
 checked-holds-sub-checked-operand-3 t c =
-    let s = c .before .before .before .before in
     let n = checked-holds-here t (c .before .before) test.Equal (c .enum-told2 .given .1) in
     omega (arith, n .some)
 
@@ -159,13 +153,11 @@ checked-holds-checked-operand-requires-3 t c κs =
 
 checked-holds-link-requires-2 : (t : ℕ) → checked-holds-lts.Need-link-requires-2 (checked-holds-calls t) (checked-holds-at t) checked-holds.Post
 checked-holds-link-requires-2 t c κs =
-    let s = c .before .before .before .before .before in
     let n = checked-holds-here t (c .before .before .before) test.Equal (c .before .enum-told2 .given .1) in
     (n .inside, omega arith, n .stands .1 .0)
 
 checked-holds-sub-checked-operand-4 : (t : ℕ) → checked-holds-lts.Need-sub-checked-operand-4 (checked-holds-calls t) (checked-holds-at t) checked-holds.Post
 checked-holds-sub-checked-operand-4 t c =
-    let s = c .before .before .before .before .before .before in
     let n = checked-holds-here t (c .before .before .before .before) test.Equal (c .before .before .enum-told2 .given .1) in
     omega (arith, n .some)
 
@@ -178,13 +170,11 @@ checked-holds-checked-operand-requires-4 t c κs =
 
 checked-holds-add-checked-holds : (t : ℕ) → checked-holds-lts.Need-add-checked-holds (checked-holds-calls t) (checked-holds-at t) checked-holds.Post
 checked-holds-add-checked-holds t c =
-    let s = c .before .before .before .before in
     let n = checked-holds-here t (c .before .before) test.Conjunction (c .enum-told3 .given .1) in
     record { fits = omega (arith, n .inside) }
 
 checked-holds-sub-checked-holds : (t : ℕ) → checked-holds-lts.Need-sub-checked-holds (checked-holds-calls t) (checked-holds-at t) checked-holds.Post
 checked-holds-sub-checked-holds t c =
-    let s = c .before .before .before .before in
     let n = checked-holds-here t (c .before .before) test.Conjunction (c .enum-told3 .given .1) in
     omega (arith, n .some)
 
@@ -197,13 +187,11 @@ checked-holds-checked-holds-requires t c κs =
 
 checked-holds-link-requires-3 : (t : ℕ) → checked-holds-lts.Need-link-requires-3 (checked-holds-calls t) (checked-holds-at t) checked-holds.Post
 checked-holds-link-requires-3 t c κs =
-    let s = c .before .before .before .before .before in
     let n = checked-holds-here t (c .before .before .before) test.Conjunction (c .before .enum-told3 .given .1) in
     (n .inside, omega arith, n .stands .1 .0)
 
 checked-holds-sub-checked-holds-2 : (t : ℕ) → checked-holds-lts.Need-sub-checked-holds-2 (checked-holds-calls t) (checked-holds-at t) checked-holds.Post
 checked-holds-sub-checked-holds-2 t c =
-    let s = c .before .before .before .before .before .before in
     let n = checked-holds-here t (c .before .before .before .before) test.Conjunction (c .before .before .enum-told3 .given .1) in
     omega (arith, n .some)
 
@@ -216,13 +204,11 @@ checked-holds-checked-holds-requires-2 t c κs =
 
 checked-holds-add-checked-holds-2 : (t : ℕ) → checked-holds-lts.Need-add-checked-holds-2 (checked-holds-calls t) (checked-holds-at t) checked-holds.Post
 checked-holds-add-checked-holds-2 t c =
-    let s = c .before .before .before .before in
     let n = checked-holds-here t (c .before .before) test.Disjunction (c .enum-told4 .given .1) in
     record { fits = omega (arith, n .inside) }
 
 checked-holds-sub-checked-holds-3 : (t : ℕ) → checked-holds-lts.Need-sub-checked-holds-3 (checked-holds-calls t) (checked-holds-at t) checked-holds.Post
 checked-holds-sub-checked-holds-3 t c =
-    let s = c .before .before .before .before in
     let n = checked-holds-here t (c .before .before) test.Disjunction (c .enum-told4 .given .1) in
     omega (arith, n .some)
 
@@ -235,13 +221,11 @@ checked-holds-checked-holds-requires-3 t c κs =
 
 checked-holds-link-requires-4 : (t : ℕ) → checked-holds-lts.Need-link-requires-4 (checked-holds-calls t) (checked-holds-at t) checked-holds.Post
 checked-holds-link-requires-4 t c κs =
-    let s = c .before .before .before .before .before in
     let n = checked-holds-here t (c .before .before .before) test.Disjunction (c .before .enum-told4 .given .1) in
     (n .inside, omega arith, n .stands .1 .0)
 
 checked-holds-sub-checked-holds-4 : (t : ℕ) → checked-holds-lts.Need-sub-checked-holds-4 (checked-holds-calls t) (checked-holds-at t) checked-holds.Post
 checked-holds-sub-checked-holds-4 t c =
-    let s = c .before .before .before .before .before .before in
     let n = checked-holds-here t (c .before .before .before .before) test.Disjunction (c .before .before .enum-told4 .given .1) in
     omega (arith, n .some)
 
@@ -254,13 +238,11 @@ checked-holds-checked-holds-requires-4 t c κs =
 
 checked-holds-add-checked-holds-3 : (t : ℕ) → checked-holds-lts.Need-add-checked-holds-3 (checked-holds-calls t) (checked-holds-at t) checked-holds.Post
 checked-holds-add-checked-holds-3 t c =
-    let s = c .before .before .before .before in
     let n = checked-holds-here t (c .before .before) test.Negation (c .enum-told5 .given .1) in
     record { fits = omega (arith, n .inside) }
 
 checked-holds-sub-checked-holds-5 : (t : ℕ) → checked-holds-lts.Need-sub-checked-holds-5 (checked-holds-calls t) (checked-holds-at t) checked-holds.Post
 checked-holds-sub-checked-holds-5 t c =
-    let s = c .before .before .before .before in
     let n = checked-holds-here t (c .before .before) test.Negation (c .enum-told5 .given .1) in
     omega (arith, n .some)
 
@@ -273,37 +255,31 @@ checked-holds-checked-holds-requires-5 t c κs =
 
 checked-holds-returns : (t : ℕ) → checked-holds-lts.Need-returns (checked-holds-calls t) (checked-holds-at t) checked-holds.Post
 checked-holds-returns t c =
-    let s = c .before .before .before .before .before .before .before .before in
     let n = checked-holds-here t (c .before .before .before .before .before .before) test.Less (c .before .before .before .before .enum-told .given .1) in
     arms.less-arm _ _ _ _ _ _ _ _ (c .before .before .before .checked-operand .ensures) (c .before .before .link .ensures) (c .before .checked-operand2 .ensures) n (c .less-than .ensures)
 
 checked-holds-returns-2 : (t : ℕ) → checked-holds-lts.Need-returns-2 (checked-holds-calls t) (checked-holds-at t) checked-holds.Post
 checked-holds-returns-2 t c =
-    let s = c .before .before .before .before .before .before .before .before in
     let n = checked-holds-here t (c .before .before .before .before .before .before) test.Equal (c .before .before .before .before .enum-told2 .given .1) in
     arms.equal-arm _ _ _ _ _ _ _ _ (c .before .before .before .checked-operand3 .ensures) (c .before .before .link2 .ensures) (c .before .checked-operand4 .ensures) n (c .equal-to .ensures)
 
 checked-holds-returns-3 : (t : ℕ) → checked-holds-lts.Need-returns-3 (checked-holds-calls t) (checked-holds-at t) checked-holds.Post
 checked-holds-returns-3 t c =
-    let s = c .before .before .before .before .before .before .before .before in
     let n = checked-holds-here t (c .before .before .before .before .before .before) test.Conjunction (c .before .before .before .before .enum-told3 .given .1) in
     arms.conjunction-arm _ _ _ _ _ _ _ _ (c .before .before .before .checked-holds .ensures) (c .before .before .link3 .ensures) (c .before .checked-holds2 .ensures) n (c .both-hold .ensures)
 
 checked-holds-returns-4 : (t : ℕ) → checked-holds-lts.Need-returns-4 (checked-holds-calls t) (checked-holds-at t) checked-holds.Post
 checked-holds-returns-4 t c =
-    let s = c .before .before .before .before .before .before .before .before in
     let n = checked-holds-here t (c .before .before .before .before .before .before) test.Disjunction (c .before .before .before .before .enum-told4 .given .1) in
     arms.disjunction-arm _ _ _ _ _ _ _ _ (c .before .before .before .checked-holds3 .ensures) (c .before .before .link4 .ensures) (c .before .checked-holds4 .ensures) n (c .one-holds .ensures)
 
 checked-holds-returns-5 : (t : ℕ) → checked-holds-lts.Need-returns-5 (checked-holds-calls t) (checked-holds-at t) checked-holds.Post
 checked-holds-returns-5 t c =
-    let s = c .before .before .before .before .before .before in
     let n = checked-holds-here t (c .before .before .before .before) test.Negation (c .before .before .enum-told5 .given .1) in
     arms.negation-arm _ _ _ _ _ _ _ _ n (c .before .checked-holds5 .ensures) (c .opposite .ensures)
 
 checked-holds-returns-6 : (t : ℕ) → checked-holds-lts.Need-returns-6 (checked-holds-calls t) (checked-holds-at t) checked-holds.Post
 checked-holds-returns-6 t c =
-    let s = c .before .before .before .before in
     let n = checked-holds-here t (c .before .before) test.NoTest (c .enum-told6 .given .1) in
     arms.no-test-arm _ _ _ _ _ _ _ _ n
 
@@ -358,7 +334,7 @@ checked-holds-part t =
     (checked-holds-returns-6 t)
 
 abbrev checked-operand-calls : ℕ → checked-operand-lts.Claims
-checked-operand-calls t = (slot-reads.Asked, slot-reads.Learnt, number-reads.Asked, number-reads.Learnt, reading-reads.Asked, reading-reads.Learnt, checked-value-below t, checked-value.Post)
+checked-operand-calls t = (slot-reads.Asked, slot-reads.Learnt, number-reads.Asked, number-reads.Learnt, checked-value-below t, checked-value.Post)
 
 checked-operand-slot-requires : (t : ℕ) → checked-operand-lts.Need-slot-requires (checked-operand-calls t) (checked-operand-at t) checked-operand.Post
 checked-operand-slot-requires t c κs = (amount-inside _ _ _ (c .pre .1 .2), omega arith)
@@ -371,14 +347,6 @@ checked-operand-number-requires t c κs =
     let n = amount-node f (c .before .slot .ensures) (s .pre .1 .2) (s .pre .1 .3) (number-key _ f (c .match .keys1)) refl in
     (n .inside, n .fields)
 
-checked-operand-reading-requires : (t : ℕ) → checked-operand-lts.Need-reading-requires (checked-operand-calls t) (checked-operand-at t) checked-operand.Post
-unfolding fieldsOfAmount
-checked-operand-reading-requires t c κs =
-    let s = c .before .before in
-    let f : SFits w64 (c .before .slot .result) = search needs in
-    let n = amount-node f (c .before .slot .ensures) (s .pre .1 .2) (s .pre .1 .3) (index-key _ f (c .match .keys2)) refl in
-    (n .inside, s .pre .1 .0, s .pre .1 .1, n .fields .1)
-
 checked-operand-checked-value-requires : (t : ℕ) → checked-operand-lts.Need-checked-value-requires (checked-operand-calls t) (checked-operand-at t) checked-operand.Post
 checked-operand-checked-value-requires t c κs = (omega arith, c .before .before .pre .1)
 
@@ -390,25 +358,16 @@ checked-operand-returns t c =
     arms.number-arm _ _ _ _ _ _ _ _ n (c .number .ensures)
 
 checked-operand-returns-2 : (t : ℕ) → checked-operand-lts.Need-returns-2 (checked-operand-calls t) (checked-operand-at t) checked-operand.Post
-checked-operand-returns-2 t c =
-    let s = c .before .before .before in
-    let f : SFits w64 (c .before .before .slot .result) = search needs in
-    let n = amount-node f (c .before .before .slot .ensures) (s .pre .1 .2) (s .pre .1 .3) (index-key _ f (c .before .match .keys2)) refl in
-    arms.index-arm _ _ _ _ _ _ _ _ n (c .reading .ensures)
-
-checked-operand-returns-3 : (t : ℕ) → checked-operand-lts.Need-returns-3 (checked-operand-calls t) (checked-operand-at t) checked-operand.Post
-checked-operand-returns-3 t c = c .checked-value .ensures
+checked-operand-returns-2 t c = c .checked-value .ensures
 
 checked-operand-part : {M : Type 1} (t : ℕ) → checked-operand-lts.Closed (checked-operand-calls t) (checked-operand-at t) checked-operand.Post M
 checked-operand-part t =
     checked-operand-lts.spec (checked-operand-calls t) (checked-operand-at t) checked-operand.Post
     (checked-operand-slot-requires t)
     (checked-operand-number-requires t)
-    (checked-operand-reading-requires t)
     (checked-operand-checked-value-requires t)
     (checked-operand-returns t)
     (checked-operand-returns-2 t)
-    (checked-operand-returns-3 t)
 
 abbrev checked-value-calls : ℕ → checked-value-lts.Claims
 checked-value-calls t = (slot-reads.Asked, slot-reads.Learnt, amount-letter-reads.Asked, amount-letter-reads.Learnt, number-reads.Asked, number-reads.Learnt, reading-reads.Asked, reading-reads.Learnt, checked-operand-below t, checked-operand.Post, link-reads.Asked, link-reads.Learnt, sum-of-reads.Asked, sum-of-reads.Learnt, difference-of-reads.Asked, difference-of-reads.Learnt, product-of-reads.Asked, product-of-reads.Learnt, over-reads.Asked, over-reads.Learnt, checked-holds-below t, checked-holds.Post)
@@ -427,7 +386,6 @@ checked-value-slot-requires t c κs = (amount-inside _ _ _ (c .pre .1 .2), omega
 checked-value-number-requires : (t : ℕ) → checked-value-lts.Need-number-requires (checked-value-calls t) (checked-value-at t) checked-value.Post
 unfolding fieldsOfAmount
 checked-value-number-requires t c κs =
-    let s = c .before .before .before .before in
     let n = checked-value-here t (c .before .before) amount.Number (c .enum-told .given .1) in
     (n .inside, n .fields)
 
@@ -440,13 +398,11 @@ checked-value-reading-requires t c κs =
 
 checked-value-add-checked-operand : (t : ℕ) → checked-value-lts.Need-add-checked-operand (checked-value-calls t) (checked-value-at t) checked-value.Post
 checked-value-add-checked-operand t c =
-    let s = c .before .before .before .before in
     let n = checked-value-here t (c .before .before) amount.Sum (c .enum-told3 .given .1) in
     record { fits = omega (arith, n .inside) }
 
 checked-value-sub-checked-operand : (t : ℕ) → checked-value-lts.Need-sub-checked-operand (checked-value-calls t) (checked-value-at t) checked-value.Post
 checked-value-sub-checked-operand t c =
-    let s = c .before .before .before .before in
     let n = checked-value-here t (c .before .before) amount.Sum (c .enum-told3 .given .1) in
     omega (arith, n .some)
 
@@ -459,13 +415,11 @@ checked-value-checked-operand-requires t c κs =
 
 checked-value-link-requires : (t : ℕ) → checked-value-lts.Need-link-requires (checked-value-calls t) (checked-value-at t) checked-value.Post
 checked-value-link-requires t c κs =
-    let s = c .before .before .before .before .before in
     let n = checked-value-here t (c .before .before .before) amount.Sum (c .before .enum-told3 .given .1) in
     (n .inside, omega arith, n .stands .1 .0)
 
 checked-value-sub-checked-operand-2 : (t : ℕ) → checked-value-lts.Need-sub-checked-operand-2 (checked-value-calls t) (checked-value-at t) checked-value.Post
 checked-value-sub-checked-operand-2 t c =
-    let s = c .before .before .before .before .before .before in
     let n = checked-value-here t (c .before .before .before .before) amount.Sum (c .before .before .enum-told3 .given .1) in
     omega (arith, n .some)
 
@@ -485,13 +439,11 @@ checked-value-sum-of-requires t c κs =
 
 checked-value-add-checked-operand-2 : (t : ℕ) → checked-value-lts.Need-add-checked-operand-2 (checked-value-calls t) (checked-value-at t) checked-value.Post
 checked-value-add-checked-operand-2 t c =
-    let s = c .before .before .before .before in
     let n = checked-value-here t (c .before .before) amount.Difference (c .enum-told4 .given .1) in
     record { fits = omega (arith, n .inside) }
 
 checked-value-sub-checked-operand-3 : (t : ℕ) → checked-value-lts.Need-sub-checked-operand-3 (checked-value-calls t) (checked-value-at t) checked-value.Post
 checked-value-sub-checked-operand-3 t c =
-    let s = c .before .before .before .before in
     let n = checked-value-here t (c .before .before) amount.Difference (c .enum-told4 .given .1) in
     omega (arith, n .some)
 
@@ -504,13 +456,11 @@ checked-value-checked-operand-requires-3 t c κs =
 
 checked-value-link-requires-2 : (t : ℕ) → checked-value-lts.Need-link-requires-2 (checked-value-calls t) (checked-value-at t) checked-value.Post
 checked-value-link-requires-2 t c κs =
-    let s = c .before .before .before .before .before in
     let n = checked-value-here t (c .before .before .before) amount.Difference (c .before .enum-told4 .given .1) in
     (n .inside, omega arith, n .stands .1 .0)
 
 checked-value-sub-checked-operand-4 : (t : ℕ) → checked-value-lts.Need-sub-checked-operand-4 (checked-value-calls t) (checked-value-at t) checked-value.Post
 checked-value-sub-checked-operand-4 t c =
-    let s = c .before .before .before .before .before .before in
     let n = checked-value-here t (c .before .before .before .before) amount.Difference (c .before .before .enum-told4 .given .1) in
     omega (arith, n .some)
 
@@ -530,13 +480,11 @@ checked-value-difference-of-requires t c κs =
 
 checked-value-add-checked-operand-3 : (t : ℕ) → checked-value-lts.Need-add-checked-operand-3 (checked-value-calls t) (checked-value-at t) checked-value.Post
 checked-value-add-checked-operand-3 t c =
-    let s = c .before .before .before .before in
     let n = checked-value-here t (c .before .before) amount.Product (c .enum-told5 .given .1) in
     record { fits = omega (arith, n .inside) }
 
 checked-value-sub-checked-operand-5 : (t : ℕ) → checked-value-lts.Need-sub-checked-operand-5 (checked-value-calls t) (checked-value-at t) checked-value.Post
 checked-value-sub-checked-operand-5 t c =
-    let s = c .before .before .before .before in
     let n = checked-value-here t (c .before .before) amount.Product (c .enum-told5 .given .1) in
     omega (arith, n .some)
 
@@ -549,13 +497,11 @@ checked-value-checked-operand-requires-5 t c κs =
 
 checked-value-link-requires-3 : (t : ℕ) → checked-value-lts.Need-link-requires-3 (checked-value-calls t) (checked-value-at t) checked-value.Post
 checked-value-link-requires-3 t c κs =
-    let s = c .before .before .before .before .before in
     let n = checked-value-here t (c .before .before .before) amount.Product (c .before .enum-told5 .given .1) in
     (n .inside, omega arith, n .stands .1 .0)
 
 checked-value-sub-checked-operand-6 : (t : ℕ) → checked-value-lts.Need-sub-checked-operand-6 (checked-value-calls t) (checked-value-at t) checked-value.Post
 checked-value-sub-checked-operand-6 t c =
-    let s = c .before .before .before .before .before .before in
     let n = checked-value-here t (c .before .before .before .before) amount.Product (c .before .before .enum-told5 .given .1) in
     omega (arith, n .some)
 
@@ -575,13 +521,11 @@ checked-value-product-of-requires t c κs =
 
 checked-value-add-checked-operand-4 : (t : ℕ) → checked-value-lts.Need-add-checked-operand-4 (checked-value-calls t) (checked-value-at t) checked-value.Post
 checked-value-add-checked-operand-4 t c =
-    let s = c .before .before .before .before in
     let n = checked-value-here t (c .before .before) amount.Quotient (c .enum-told6 .given .1) in
     record { fits = omega (arith, n .inside) }
 
 checked-value-sub-checked-operand-7 : (t : ℕ) → checked-value-lts.Need-sub-checked-operand-7 (checked-value-calls t) (checked-value-at t) checked-value.Post
 checked-value-sub-checked-operand-7 t c =
-    let s = c .before .before .before .before in
     let n = checked-value-here t (c .before .before) amount.Quotient (c .enum-told6 .given .1) in
     omega (arith, n .some)
 
@@ -601,13 +545,11 @@ checked-value-over-requires t c κs =
 
 checked-value-add-checked-holds : (t : ℕ) → checked-value-lts.Need-add-checked-holds (checked-value-calls t) (checked-value-at t) checked-value.Post
 checked-value-add-checked-holds t c =
-    let s = c .before .before .before .before in
     let n = checked-value-here t (c .before .before) amount.Choose (c .enum-told7 .given .1) in
     record { fits = omega (arith, n .inside) }
 
 checked-value-sub-checked-holds : (t : ℕ) → checked-value-lts.Need-sub-checked-holds (checked-value-calls t) (checked-value-at t) checked-value.Post
 checked-value-sub-checked-holds t c =
-    let s = c .before .before .before .before in
     let n = checked-value-here t (c .before .before) amount.Choose (c .enum-told7 .given .1) in
     omega (arith, n .some)
 
@@ -620,13 +562,11 @@ checked-value-checked-holds-requires t c κs =
 
 checked-value-link-requires-4 : (t : ℕ) → checked-value-lts.Need-link-requires-4 (checked-value-calls t) (checked-value-at t) checked-value.Post
 checked-value-link-requires-4 t c κs =
-    let s = c .before .before .before .before .before .before .before in
     let n = checked-value-here t (c .before .before .before .before .before) amount.Choose (c .before .before .before .enum-told7 .given .1) in
     (n .inside, omega arith, n .stands .1 .0)
 
 checked-value-sub-checked-operand-8 : (t : ℕ) → checked-value-lts.Need-sub-checked-operand-8 (checked-value-calls t) (checked-value-at t) checked-value.Post
 checked-value-sub-checked-operand-8 t c =
-    let s = c .before .before .before .before .before .before .before .before in
     let n = checked-value-here t (c .before .before .before .before .before .before) amount.Choose (c .before .before .before .before .enum-told7 .given .1) in
     omega (arith, n .some)
 
@@ -639,13 +579,11 @@ checked-value-checked-operand-requires-8 t c κs =
 
 checked-value-link-requires-5 : (t : ℕ) → checked-value-lts.Need-link-requires-5 (checked-value-calls t) (checked-value-at t) checked-value.Post
 checked-value-link-requires-5 t c κs =
-    let s = c .before .before .before .before .before .before .before in
     let n = checked-value-here t (c .before .before .before .before .before) amount.Choose (c .before .before .before .enum-told7 .given .1) in
     (n .inside, omega arith, n .stands .2 .0)
 
 checked-value-sub-checked-operand-9 : (t : ℕ) → checked-value-lts.Need-sub-checked-operand-9 (checked-value-calls t) (checked-value-at t) checked-value.Post
 checked-value-sub-checked-operand-9 t c =
-    let s = c .before .before .before .before .before .before .before .before in
     let n = checked-value-here t (c .before .before .before .before .before .before) amount.Choose (c .before .before .before .before .enum-told7 .given .1) in
     omega (arith, n .some)
 
@@ -658,61 +596,51 @@ checked-value-checked-operand-requires-9 t c κs =
 
 checked-value-returns : (t : ℕ) → checked-value-lts.Need-returns (checked-value-calls t) (checked-value-at t) checked-value.Post
 checked-value-returns t c =
-    let s = c .before .before .before .before .before in
     let n = checked-value-here t (c .before .before .before) amount.Number (c .before .enum-told .given .1) in
     arms.number-arm _ _ _ _ _ _ _ _ n (c .number .ensures)
 
 checked-value-returns-2 : (t : ℕ) → checked-value-lts.Need-returns-2 (checked-value-calls t) (checked-value-at t) checked-value.Post
 checked-value-returns-2 t c =
-    let s = c .before .before .before .before .before in
     let n = checked-value-here t (c .before .before .before) amount.Index (c .before .enum-told2 .given .1) in
     arms.index-arm _ _ _ _ _ _ _ _ n (c .reading .ensures)
 
 checked-value-returns-3 : (t : ℕ) → checked-value-lts.Need-returns-3 (checked-value-calls t) (checked-value-at t) checked-value.Post
 checked-value-returns-3 t c =
-    let s = c .before .before .before .before .before .before .before .before in
     let n = checked-value-here t (c .before .before .before .before .before .before) amount.Sum (c .before .before .before .before .enum-told3 .given .1) in
     arms.sum-arm _ _ _ _ _ _ _ _ (c .before .before .before .checked-operand .ensures) (c .before .before .link .ensures) (c .before .checked-operand2 .ensures) n (c .sum-of .ensures)
 
 checked-value-returns-4 : (t : ℕ) → checked-value-lts.Need-returns-4 (checked-value-calls t) (checked-value-at t) checked-value.Post
 checked-value-returns-4 t c =
-    let s = c .before .before .before .before .before .before .before .before in
     let n = checked-value-here t (c .before .before .before .before .before .before) amount.Difference (c .before .before .before .before .enum-told4 .given .1) in
     arms.difference-arm _ _ _ _ _ _ _ _ (c .before .before .before .checked-operand3 .ensures) (c .before .before .link2 .ensures) (c .before .checked-operand4 .ensures) n (c .difference-of .ensures)
 
 checked-value-returns-5 : (t : ℕ) → checked-value-lts.Need-returns-5 (checked-value-calls t) (checked-value-at t) checked-value.Post
 checked-value-returns-5 t c =
-    let s = c .before .before .before .before .before .before .before .before in
     let n = checked-value-here t (c .before .before .before .before .before .before) amount.Product (c .before .before .before .before .enum-told5 .given .1) in
     arms.product-arm _ _ _ _ _ _ _ _ (c .before .before .before .checked-operand5 .ensures) (c .before .before .link3 .ensures) (c .before .checked-operand6 .ensures) n (c .product-of .ensures)
 
 checked-value-returns-6 : (t : ℕ) → checked-value-lts.Need-returns-6 (checked-value-calls t) (checked-value-at t) checked-value.Post
 checked-value-returns-6 t c =
-    let s = c .before .before .before .before .before .before in
     let n = checked-value-here t (c .before .before .before .before) amount.Quotient (c .before .before .enum-told6 .given .1) in
     arms.quotient-arm _ _ _ _ _ _ _ _ n (c .before .checked-operand7 .ensures) (c .over .ensures)
 
 checked-value-returns-7 : (t : ℕ) → checked-value-lts.Need-returns-7 (checked-value-calls t) (checked-value-at t) checked-value.Post
 checked-value-returns-7 t c =
-    let s = c .before .before .before .before .before .before .before .before .before in
     let n = checked-value-here t (c .before .before .before .before .before .before .before) amount.Choose (c .before .before .before .before .before .enum-told7 .given .1) in
     arms.then-arm _ _ _ _ _ _ _ _ n (sym (c .before .before .before .before .checked-holds .ensures) ∙ ap testedAnswer (c .before .before .enum-told8 .given .1)) (c .before .link4 .ensures) (c .checked-operand8 .ensures)
 
 checked-value-returns-8 : (t : ℕ) → checked-value-lts.Need-returns-8 (checked-value-calls t) (checked-value-at t) checked-value.Post
 checked-value-returns-8 t c =
-    let s = c .before .before .before .before .before .before .before .before .before in
     let n = checked-value-here t (c .before .before .before .before .before .before .before) amount.Choose (c .before .before .before .before .before .enum-told7 .given .1) in
     arms.else-arm _ _ _ _ _ _ _ _ n (sym (c .before .before .before .before .checked-holds .ensures) ∙ ap testedAnswer (c .before .before .enum-told9 .given .1)) (c .before .link5 .ensures) (c .checked-operand9 .ensures)
 
 checked-value-returns-9 : (t : ℕ) → checked-value-lts.Need-returns-9 (checked-value-calls t) (checked-value-at t) checked-value.Post
 checked-value-returns-9 t c =
-    let s = c .before .before .before .before .before .before .before .before in
     let n = checked-value-here t (c .before .before .before .before .before .before) amount.Choose (c .before .before .before .before .enum-told7 .given .1) in
     arms.refused-arm _ _ _ _ _ _ _ _ n (sym (c .before .before .before .checked-holds .ensures) ∙ ap testedAnswer (c .before .t .given .1))
 
 checked-value-returns-10 : (t : ℕ) → checked-value-lts.Need-returns-10 (checked-value-calls t) (checked-value-at t) checked-value.Post
 checked-value-returns-10 t c =
-    let s = c .before .before .before .before in
     let n = checked-value-here t (c .before .before) amount.NoAmount (c .enum-told10 .given .1) in
     arms.no-amount-arm _ _ _ _ _ _ _ _ n
 

@@ -16,7 +16,6 @@ month-at-requires c κs = search needs
 later-requires : tie.Need-later-requires
 later-requires c κs =
     let s = c .before in
-    let a = s .args in
     (near-small (s .pre .4) (c .month-at .ensures), waited-small (s .pre .2))
 
 month-ok-requires : tie.Need-month-ok-requires
@@ -52,10 +51,7 @@ value-times-requires : tie.Need-value-times-requires
 value-times-requires c κs =
     let s = c .before .before .before .before .before .before .before .before .before .before in
     let a = s .args in
-    let ff : SFits w64 (a .span .f) = search needs in
     let e = leaf.code-month (c .before .before .before .before .before .before .before .before .later .ensures) (c .before .before .before .before .before .before .before .before .before .month-at .ensures) (s .pre .2) in
-    let fm = leaf.month-fits e (s .pre .4) (s .pre .2) in
-    let b = leaf.month-tested ff fm e (c .before .before .before .before .before .month-ok .ensures) (c .before .before .before .before .if1 .taken) in
     leaf.product-small (a .span .f) (a .factors .now) (s .pre .1) (a .start .0) _ _ (unit-one (natAbs (a .pair .p)) (natAbs (a .pair .q)) _ _) e (c .before .penny .ensures) (c .factor .ensures)
 
 returns-2 : tie.Need-returns-2

@@ -24,7 +24,7 @@ use Rattle.nodes.proofs.link.Reads as link-reads
 use Rattle.pays.proofs.rows.delay.Reads as delay-reads
 use Rattle.worths.proofs.answers.added.Reads as added-reads
 use Rattle.worths.proofs.answers.scaled.Reads as scaled-reads
-use Rattle.worths.proofs.checked_operand.Reads as checked-operand-reads
+use Rattle.worths.proofs.checked_value.Reads as checked-value-reads
 use Rattle.worths.proofs.leaf.leaf_worth.Reads as leaf-worth-reads
 use Rattle.worths.proofs.rows.letter.Reads as letter-reads
 use Rattle.worths.proofs.wait.wait_for.Reads as wait-for-reads
@@ -43,7 +43,7 @@ payoff-worth-below t = and
     payoff-worth.Pre
 
 abbrev payoff-worth-calls : ℕ → payoff-worth-lts.Claims
-payoff-worth-calls t = (letter-reads.Asked, letter-reads.Learnt, leaf-worth-reads.Asked, leaf-worth-reads.Learnt, checked-operand-reads.Asked, checked-operand-reads.Learnt, link-reads.Asked, link-reads.Learnt, payoff-worth-below t, payoff-worth.Post, scaled-reads.Asked, scaled-reads.Learnt, added-reads.Asked, added-reads.Learnt, delay-reads.Asked, delay-reads.Learnt, wait-for-reads.Asked, wait-for-reads.Learnt)
+payoff-worth-calls t = (letter-reads.Asked, letter-reads.Learnt, leaf-worth-reads.Asked, leaf-worth-reads.Learnt, checked-value-reads.Asked, checked-value-reads.Learnt, link-reads.Asked, link-reads.Learnt, payoff-worth-below t, payoff-worth.Post, scaled-reads.Asked, scaled-reads.Learnt, added-reads.Asked, added-reads.Learnt, delay-reads.Asked, delay-reads.Learnt, wait-for-reads.Asked, wait-for-reads.Learnt)
 
 -- what is known in the arm of letter l
 payoff-worth-here : (t : ℕ) (c : payoff-worth-lts.After-letter (payoff-worth-calls t) (payoff-worth-at t) payoff-worth.Post) (l : PayoffLetter) → c .letter .result ≡ l
@@ -57,7 +57,6 @@ payoff-worth-leaf-worth-requires : (t : ℕ) → payoff-worth-lts.Need-leaf-wort
 unfolding InRange
 payoff-worth-leaf-worth-requires t c κs =
     let s = c .before .before .before in
-    let a = s .args in
     let h = s .pre .1 in
     let n = payoff-worth-here t (c .before .before) letter.Uncut (c .enum-told2 .given .1) in
     (n .inside, h .1, parts.waited (h .2), h .4, n .range)
@@ -66,41 +65,30 @@ payoff-worth-leaf-worth-requires-2 : (t : ℕ) → payoff-worth-lts.Need-leaf-wo
 unfolding InRange
 payoff-worth-leaf-worth-requires-2 t c κs =
     let s = c .before .before .before in
-    let a = s .args in
     let h = s .pre .1 in
     let n = payoff-worth-here t (c .before .before) letter.Cut (c .enum-told3 .given .1) in
     (n .inside, h .1, parts.waited (h .2), h .4, n .range)
 
-payoff-worth-add-checked-operand : (t : ℕ) → payoff-worth-lts.Need-add-checked-operand (payoff-worth-calls t) (payoff-worth-at t) payoff-worth.Post
-payoff-worth-add-checked-operand t c =
-    let s = c .before .before .before in
-    let a = s .args in
-    let h = s .pre .1 in
+payoff-worth-add-checked-value : (t : ℕ) → payoff-worth-lts.Need-add-checked-value (payoff-worth-calls t) (payoff-worth-at t) payoff-worth.Post
+payoff-worth-add-checked-value t c =
     let n = payoff-worth-here t (c .before .before) letter.Times (c .enum-told4 .given .1) in
     record { fits = omega (arith, n .inside) }
 
-payoff-worth-checked-operand-requires : (t : ℕ) → payoff-worth-lts.Need-checked-operand-requires (payoff-worth-calls t) (payoff-worth-at t) payoff-worth.Post
+payoff-worth-checked-value-requires : (t : ℕ) → payoff-worth-lts.Need-checked-value-requires (payoff-worth-calls t) (payoff-worth-at t) payoff-worth.Post
 unfolding InRange
-payoff-worth-checked-operand-requires t c κs =
+payoff-worth-checked-value-requires t c κs =
     let s = c .before .before .before in
-    let a = s .args in
     let h = s .pre .1 in
     let n = payoff-worth-here t (c .before .before) letter.Times (c .enum-told4 .given .1) in
     (h .0, parts.waited (h .2), n .stands .0, n .range .0)
 
 payoff-worth-link-requires : (t : ℕ) → payoff-worth-lts.Need-link-requires (payoff-worth-calls t) (payoff-worth-at t) payoff-worth.Post
 payoff-worth-link-requires t c κs =
-    let s = c .before .before .before .before in
-    let a = s .args in
-    let h = s .pre .1 in
     let n = payoff-worth-here t (c .before .before .before) letter.Times (c .before .enum-told4 .given .1) in
     (n .inside, omega arith, n .stands .1 .0)
 
 payoff-worth-sub-payoff-worth : (t : ℕ) → payoff-worth-lts.Need-sub-payoff-worth (payoff-worth-calls t) (payoff-worth-at t) payoff-worth.Post
 payoff-worth-sub-payoff-worth t c =
-    let s = c .before .before .before .before .before in
-    let a = s .args in
-    let h = s .pre .1 in
     let n = payoff-worth-here t (c .before .before .before .before) letter.Times (c .before .before .enum-told4 .given .1) in
     omega (arith, n .some)
 
@@ -108,7 +96,6 @@ payoff-worth-payoff-worth-requires : (t : ℕ) → payoff-worth-lts.Need-payoff-
 unfolding InRange
 payoff-worth-payoff-worth-requires t c κs =
     let s = c .before .before .before .before .before in
-    let a = s .args in
     let h = s .pre .1 in
     let n = payoff-worth-here t (c .before .before .before .before) letter.Times (c .before .before .enum-told4 .given .1) in
     (omega (arith, n .some), rw (c .link .ensures) (h .0, h .1, parts.same-waited (n .some) (h .2), h .3, h .4, n .stands .1 .1, n .range .1))
@@ -117,25 +104,18 @@ payoff-worth-scaled-requires : (t : ℕ) → payoff-worth-lts.Need-scaled-requir
 payoff-worth-scaled-requires t c κs =
     let s = c .before .before .before .before .before .before in
     let a = s .args in
-    let h = s .pre .1 in
     let n = payoff-worth-here t (c .before .before .before .before .before) letter.Times (c .before .before .before .enum-told4 .given .1) in (
-      valued-small (a .span .h) (a .span .f) (a .bounds .now) (a .values .now) _ _ (c .before .before .checked-operand .result) (c .before .before .checked-operand .ensures),
+      valued-small (a .span .h) (a .span .f) (a .bounds .now) (a .values .now) _ _ (c .before .before .checked-value .result) (c .before .before .checked-value .ensures),
       arms.part-small (a .span .h) (a .span .f) (a .factors .now) (a .bounds .now) (a .values .now) (a .pair .p) (a .pair .q) _ _ _ (c .payoff-worth .result) (c .payoff-worth .ensures),
     )
 
 payoff-worth-add-payoff-worth : (t : ℕ) → payoff-worth-lts.Need-add-payoff-worth (payoff-worth-calls t) (payoff-worth-at t) payoff-worth.Post
 payoff-worth-add-payoff-worth t c =
-    let s = c .before .before .before in
-    let a = s .args in
-    let h = s .pre .1 in
     let n = payoff-worth-here t (c .before .before) letter.Plus (c .enum-told5 .given .1) in
     record { fits = omega (arith, n .inside) }
 
 payoff-worth-sub-payoff-worth-2 : (t : ℕ) → payoff-worth-lts.Need-sub-payoff-worth-2 (payoff-worth-calls t) (payoff-worth-at t) payoff-worth.Post
 payoff-worth-sub-payoff-worth-2 t c =
-    let s = c .before .before .before in
-    let a = s .args in
-    let h = s .pre .1 in
     let n = payoff-worth-here t (c .before .before) letter.Plus (c .enum-told5 .given .1) in
     omega (arith, n .some)
 
@@ -143,24 +123,17 @@ payoff-worth-payoff-worth-requires-2 : (t : ℕ) → payoff-worth-lts.Need-payof
 unfolding InRange
 payoff-worth-payoff-worth-requires-2 t c κs =
     let s = c .before .before .before in
-    let a = s .args in
     let h = s .pre .1 in
     let n = payoff-worth-here t (c .before .before) letter.Plus (c .enum-told5 .given .1) in
     (omega (arith, n .some), (h .0, h .1, parts.same-waited (n .some) (h .2), h .3, h .4, n .stands .0, n .range .0))
 
 payoff-worth-link-requires-2 : (t : ℕ) → payoff-worth-lts.Need-link-requires-2 (payoff-worth-calls t) (payoff-worth-at t) payoff-worth.Post
 payoff-worth-link-requires-2 t c κs =
-    let s = c .before .before .before .before in
-    let a = s .args in
-    let h = s .pre .1 in
     let n = payoff-worth-here t (c .before .before .before) letter.Plus (c .before .enum-told5 .given .1) in
     (n .inside, omega arith, n .stands .1 .0)
 
 payoff-worth-sub-payoff-worth-3 : (t : ℕ) → payoff-worth-lts.Need-sub-payoff-worth-3 (payoff-worth-calls t) (payoff-worth-at t) payoff-worth.Post
 payoff-worth-sub-payoff-worth-3 t c =
-    let s = c .before .before .before .before .before in
-    let a = s .args in
-    let h = s .pre .1 in
     let n = payoff-worth-here t (c .before .before .before .before) letter.Plus (c .before .before .enum-told5 .given .1) in
     omega (arith, n .some)
 
@@ -168,7 +141,6 @@ payoff-worth-payoff-worth-requires-3 : (t : ℕ) → payoff-worth-lts.Need-payof
 unfolding InRange
 payoff-worth-payoff-worth-requires-3 t c κs =
     let s = c .before .before .before .before .before in
-    let a = s .args in
     let h = s .pre .1 in
     let n = payoff-worth-here t (c .before .before .before .before) letter.Plus (c .before .before .enum-told5 .given .1) in
     (omega (arith, n .some), rw (c .link2 .ensures) (h .0, h .1, parts.same-waited (n .some) (h .2), h .3, h .4, n .stands .1 .1, n .range .1))
@@ -177,7 +149,6 @@ payoff-worth-added-requires : (t : ℕ) → payoff-worth-lts.Need-added-requires
 payoff-worth-added-requires t c κs =
     let s = c .before .before .before .before .before .before in
     let a = s .args in
-    let h = s .pre .1 in
     let n = payoff-worth-here t (c .before .before .before .before .before) letter.Plus (c .before .before .before .enum-told5 .given .1) in (
       arms.part-small (a .span .h) (a .span .f) (a .factors .now) (a .bounds .now) (a .values .now) (a .pair .p) (a .pair .q) _ _ _ (c .before .before .payoff-worth2 .result) (c .before .before .payoff-worth2 .ensures),
       arms.part-small (a .span .h) (a .span .f) (a .factors .now) (a .bounds .now) (a .values .now) (a .pair .p) (a .pair .q) _ _ _ (c .payoff-worth3 .result) (c .payoff-worth3 .ensures),
@@ -185,17 +156,11 @@ payoff-worth-added-requires t c κs =
 
 payoff-worth-delay-requires : (t : ℕ) → payoff-worth-lts.Need-delay-requires (payoff-worth-calls t) (payoff-worth-at t) payoff-worth.Post
 payoff-worth-delay-requires t c κs =
-    let s = c .before .before .before in
-    let a = s .args in
-    let h = s .pre .1 in
     let n = payoff-worth-here t (c .before .before) letter.Await (c .enum-told6 .given .1) in
     n .inside
 
 payoff-worth-add-wait-for : (t : ℕ) → payoff-worth-lts.Need-add-wait-for (payoff-worth-calls t) (payoff-worth-at t) payoff-worth.Post
 payoff-worth-add-wait-for t c =
-    let s = c .before .before .before .before in
-    let a = s .args in
-    let h = s .pre .1 in
     let n = payoff-worth-here t (c .before .before .before) letter.Await (c .before .enum-told6 .given .1) in
     record { fits = omega (arith, n .inside) }
 
@@ -203,24 +168,17 @@ payoff-worth-wait-for-requires : (t : ℕ) → payoff-worth-lts.Need-wait-for-re
 unfolding InRange
 payoff-worth-wait-for-requires t c κs =
     let s = c .before .before .before .before in
-    let a = s .args in
     let h = s .pre .1 in
     let n = payoff-worth-here t (c .before .before .before) letter.Await (c .before .enum-told6 .given .1) in
     (h .0, parts.await-months n (h .2) (c .delay .ensures), n .stands .0, n .range .1)
 
 payoff-worth-link-requires-3 : (t : ℕ) → payoff-worth-lts.Need-link-requires-3 (payoff-worth-calls t) (payoff-worth-at t) payoff-worth.Post
 payoff-worth-link-requires-3 t c κs =
-    let s = c .before .before .before .before .before .before .before .before in
-    let a = s .args in
-    let h = s .pre .1 in
     let n = payoff-worth-here t (c .before .before .before .before .before .before .before) letter.Await (c .before .before .before .before .before .enum-told6 .given .1) in
     (n .inside, omega arith, n .stands .1 .0)
 
 payoff-worth-sub-payoff-worth-4 : (t : ℕ) → payoff-worth-lts.Need-sub-payoff-worth-4 (payoff-worth-calls t) (payoff-worth-at t) payoff-worth.Post
 payoff-worth-sub-payoff-worth-4 t c =
-    let s = c .before .before .before .before .before .before .before .before .before in
-    let a = s .args in
-    let h = s .pre .1 in
     let n = payoff-worth-here t (c .before .before .before .before .before .before .before .before) letter.Await (c .before .before .before .before .before .before .enum-told6 .given .1) in
     omega (arith, n .some)
 
@@ -228,7 +186,6 @@ payoff-worth-payoff-worth-requires-4 : (t : ℕ) → payoff-worth-lts.Need-payof
 unfolding InRange
 payoff-worth-payoff-worth-requires-4 t c κs =
     let s = c .before .before .before .before .before .before .before .before .before in
-    let a = s .args in
     let h = s .pre .1 in
     let n = payoff-worth-here t (c .before .before .before .before .before .before .before .before) letter.Await (c .before .before .before .before .before .before .enum-told6 .given .1) in
     let e = sym (ap waitAnswer (c .before .before .w .given .1)) ∙ c .before .before .before .before .wait-for .ensures .0 in
@@ -238,17 +195,11 @@ payoff-worth-payoff-worth-requires-4 t c κs =
 
 payoff-worth-link-requires-4 : (t : ℕ) → payoff-worth-lts.Need-link-requires-4 (payoff-worth-calls t) (payoff-worth-at t) payoff-worth.Post
 payoff-worth-link-requires-4 t c κs =
-    let s = c .before .before .before .before .before .before .before .before in
-    let a = s .args in
-    let h = s .pre .1 in
     let n = payoff-worth-here t (c .before .before .before .before .before .before .before) letter.Await (c .before .before .before .before .before .enum-told6 .given .1) in
     (n .inside, omega arith, n .stands .2 .0)
 
 payoff-worth-sub-payoff-worth-5 : (t : ℕ) → payoff-worth-lts.Need-sub-payoff-worth-5 (payoff-worth-calls t) (payoff-worth-at t) payoff-worth.Post
 payoff-worth-sub-payoff-worth-5 t c =
-    let s = c .before .before .before .before .before .before .before .before .before in
-    let a = s .args in
-    let h = s .pre .1 in
     let n = payoff-worth-here t (c .before .before .before .before .before .before .before .before) letter.Await (c .before .before .before .before .before .before .enum-told6 .given .1) in
     omega (arith, n .some)
 
@@ -256,7 +207,6 @@ payoff-worth-payoff-worth-requires-5 : (t : ℕ) → payoff-worth-lts.Need-payof
 unfolding InRange
 payoff-worth-payoff-worth-requires-5 t c κs =
     let s = c .before .before .before .before .before .before .before .before .before in
-    let a = s .args in
     let h = s .pre .1 in
     let n = payoff-worth-here t (c .before .before .before .before .before .before .before .before) letter.Await (c .before .before .before .before .before .before .enum-told6 .given .1) in
     let e = sym (ap waitAnswer (c .before .before .w2 .given .1)) ∙ c .before .before .before .before .wait-for .ensures .0 in
@@ -268,7 +218,6 @@ payoff-worth-returns : (t : ℕ) → payoff-worth-lts.Need-returns (payoff-worth
 payoff-worth-returns t c =
     let s = c .before .before .before in
     let a = s .args in
-    let h = s .pre .1 in
     let n = payoff-worth-here t (c .before .before) letter.Nil (c .enum-told .given .1) in
     arms.nil-arm (a .span .h) (a .span .f) (a .factors .now) (a .bounds .now) (a .values .now) (a .pair .p) (a .pair .q) _ _ _ _ _ n
 
@@ -276,7 +225,6 @@ payoff-worth-returns-2 : (t : ℕ) → payoff-worth-lts.Need-returns-2 (payoff-w
 payoff-worth-returns-2 t c =
     let s = c .before .before .before .before in
     let a = s .args in
-    let h = s .pre .1 in
     let n = payoff-worth-here t (c .before .before .before) letter.Uncut (c .before .enum-told2 .given .1) in
     arms.uncut-arm (a .span .h) (a .span .f) (a .factors .now) (a .bounds .now) (a .values .now) (a .pair .p) (a .pair .q) _ _ _ _ _ n (c .leaf-worth .ensures)
 
@@ -292,15 +240,13 @@ payoff-worth-returns-4 : (t : ℕ) → payoff-worth-lts.Need-returns-4 (payoff-w
 payoff-worth-returns-4 t c =
     let s = c .before .before .before .before .before .before .before in
     let a = s .args in
-    let h = s .pre .1 in
     let n = payoff-worth-here t (c .before .before .before .before .before .before) letter.Times (c .before .before .before .before .enum-told4 .given .1) in
-    arms.times-arm (a .span .h) (a .span .f) (a .factors .now) (a .bounds .now) (a .values .now) (a .pair .p) (a .pair .q) _ _ _ _ _ n (c .before .before .link .ensures) (c .before .before .before .checked-operand .ensures) (c .before .payoff-worth .ensures) (c .scaled .ensures)
+    arms.times-arm (a .span .h) (a .span .f) (a .factors .now) (a .bounds .now) (a .values .now) (a .pair .p) (a .pair .q) _ _ _ _ _ n (c .before .before .link .ensures) (c .before .before .before .checked-value .ensures) (c .before .payoff-worth .ensures) (c .scaled .ensures)
 
 payoff-worth-returns-5 : (t : ℕ) → payoff-worth-lts.Need-returns-5 (payoff-worth-calls t) (payoff-worth-at t) payoff-worth.Post
 payoff-worth-returns-5 t c =
     let s = c .before .before .before .before .before .before .before in
     let a = s .args in
-    let h = s .pre .1 in
     let n = payoff-worth-here t (c .before .before .before .before .before .before) letter.Plus (c .before .before .before .before .enum-told5 .given .1) in
     arms.plus-arm (a .span .h) (a .span .f) (a .factors .now) (a .bounds .now) (a .values .now) (a .pair .p) (a .pair .q) _ _ _ _ _ n (c .before .before .link2 .ensures) (c .before .before .before .payoff-worth2 .ensures) (c .before .payoff-worth3 .ensures) (c .added .ensures)
 
@@ -308,7 +254,6 @@ payoff-worth-returns-6 : (t : ℕ) → payoff-worth-lts.Need-returns-6 (payoff-w
 payoff-worth-returns-6 t c =
     let s = c .before .before .before .before .before .before .before .before .before .before in
     let a = s .args in
-    let h = s .pre .1 in
     let n = payoff-worth-here t (c .before .before .before .before .before .before .before .before .before) letter.Await (c .before .before .before .before .before .before .before .enum-told6 .given .1) in
     let e = sym (ap waitAnswer (c .before .before .before .w .given .1)) ∙ c .before .before .before .before .before .wait-for .ensures .0 in
     arms.held-arm (a .span .h) (a .span .f) (a .factors .now) (a .bounds .now) (a .values .now) (a .pair .p) (a .pair .q) _ _ _ _ _ n (c .before .before .before .before .before .before .delay .ensures) e (c .before .link3 .ensures) (c .payoff-worth4 .ensures)
@@ -317,7 +262,6 @@ payoff-worth-returns-7 : (t : ℕ) → payoff-worth-lts.Need-returns-7 (payoff-w
 payoff-worth-returns-7 t c =
     let s = c .before .before .before .before .before .before .before .before .before .before in
     let a = s .args in
-    let h = s .pre .1 in
     let n = payoff-worth-here t (c .before .before .before .before .before .before .before .before .before) letter.Await (c .before .before .before .before .before .before .before .enum-told6 .given .1) in
     let e = sym (ap waitAnswer (c .before .before .before .w2 .given .1)) ∙ c .before .before .before .before .before .wait-for .ensures .0 in
     arms.missed-arm (a .span .h) (a .span .f) (a .factors .now) (a .bounds .now) (a .values .now) (a .pair .p) (a .pair .q) _ _ _ _ _ n (c .before .before .before .before .before .before .delay .ensures) e (c .before .link4 .ensures) (c .payoff-worth5 .ensures)
@@ -326,7 +270,6 @@ payoff-worth-returns-8 : (t : ℕ) → payoff-worth-lts.Need-returns-8 (payoff-w
 payoff-worth-returns-8 t c =
     let s = c .before .before .before .before .before .before .before .before in
     let a = s .args in
-    let h = s .pre .1 in
     let n = payoff-worth-here t (c .before .before .before .before .before .before .before) letter.Await (c .before .before .before .before .before .enum-told6 .given .1) in
     let e = sym (ap waitAnswer (c .before .w3 .given .1)) ∙ c .before .before .before .wait-for .ensures .0 in
     arms.stopped-arm (a .span .h) (a .span .f) (a .factors .now) (a .bounds .now) (a .values .now) (a .pair .p) (a .pair .q) _ _ _ _ _ n (c .before .before .before .before .delay .ensures) e
@@ -335,7 +278,6 @@ payoff-worth-returns-9 : (t : ℕ) → payoff-worth-lts.Need-returns-9 (payoff-w
 payoff-worth-returns-9 t c =
     let s = c .before .before .before in
     let a = s .args in
-    let h = s .pre .1 in
     let n = payoff-worth-here t (c .before .before) letter.NoPayoff (c .enum-told7 .given .1) in
     arms.no-payoff-arm (a .span .h) (a .span .f) (a .factors .now) (a .bounds .now) (a .values .now) (a .pair .p) (a .pair .q) _ _ _ _ _ n
 
@@ -349,8 +291,8 @@ payoff-worth-part t =
     (λ c. search needs)
     (payoff-worth-leaf-worth-requires-2 t)
     (λ c. search needs)
-    (payoff-worth-add-checked-operand t)
-    (payoff-worth-checked-operand-requires t)
+    (payoff-worth-add-checked-value t)
+    (payoff-worth-checked-value-requires t)
     (payoff-worth-link-requires t)
     (payoff-worth-sub-payoff-worth t)
     (payoff-worth-payoff-worth-requires t)

@@ -9,7 +9,6 @@ month-at-requires c κs = search needs
 later-requires : tie.Need-later-requires
 later-requires c κs =
     let s = c .before in
-    let a = s .args in
     (rows.waited-small (s .pre .2), rows.near-small (s .pre .3) (c .month-at .ensures))
 
 label-requires : tie.Need-label-requires
