@@ -39,7 +39,7 @@ use Rattle.text.specs.Refusals.{numberOf}
 use Rattle.text.specs.declared.Refusal.{Refusal}
 use Rattle.text.specs.declared.Refusal.the-variants as refusal
 use Rattle.worths.specs.Checked.{worthIn}
-use Rattle.worths.specs.Ranges.{InRange}
+use Rattle.worths.specs.Ranges.{FieldsIn}
 
 -- ---- a payoff that stands in the table
 module _ {nodes : List ℤ} {count : ℕ} {x : Written} (s : Standing nodes count x) where
@@ -91,10 +91,10 @@ module _ (days : List ℤ) (h f : ℤ) (factors bounds values : List ℤ) (p q n
 
         -- the table as it was settled, in which the walk goes
         module _ {after : List ℤ} (u : SettleIs days count before after Filled) where
-          pub walked : Stands before count → PayoffStands 32 after 0 × InRange (payoffAt natOf offsetOf 32 after 0)
+          pub walked : Stands before count → PayoffStands 32 after 0 × FieldsIn (payoffAt natOf offsetOf 32 after 0)
           walked s =
               let w = found (s .standing) days (u .1) in
-              (w .safe, subst InRange (sym (w .is)) (filled-range (settingAt days) (setting-small days e) (s .payoff) (s .standing .formed .fields)))
+              (w .safe, subst FieldsIn (sym (w .is)) (filled-range (settingAt days) (setting-small days e) (s .payoff) (s .standing .formed .fields)))
 
           pub valued : {r : Evaluating} → evaluatingAnswer r ≡ worthIn (g .table) p q (natOf now) (payoffAt natOf offsetOf 32 after 0) 0 → Is r
           unfolding evaluate

@@ -14,7 +14,7 @@ use Rattle.language.specs.Text.PayoffForm.{MonthField, fieldsOfPayoff}
 use Rattle.language.specs.Text.Plans.{Written}
 use Rattle.language.specs.Text.Trees.{Delay, Month, await, cut, leaf, months, nil, plus, setting, times, uncut}
 use Rattle.settling.proofs.MappedFields.{fields-amount, fields-test}
-use Rattle.worths.specs.Ranges.{InRange, Near}
+use Rattle.worths.specs.Ranges.{FieldsIn, Near}
 
 module _ (σ : ℕ → ℕ) (small : (k : ℕ) → σ k ≤ maxMonths) where
   sum-bound : (ks : List ℕ) → settingsSum σ ks ≤ maxMonths * length ks
@@ -33,8 +33,8 @@ module _ (σ : ℕ → ℕ) (small : (k : ℕ) → σ k ≤ maxMonths) where
   short (months n) h = h
   short (setting k) h = small k
 
-  pub filled-range : (x : Written) → fieldsOfPayoff x → InRange (fillPayoff σ x)
-  unfolding fieldsOfPayoff fillPayoff InRange
+  pub filled-range : (x : Written) → fieldsOfPayoff x → FieldsIn (fillPayoff σ x)
+  unfolding fieldsOfPayoff fillPayoff FieldsIn
   filled-range nil g = tt
   filled-range (leaf uncut m p q) g = near-month m (g .0)
   filled-range (leaf cut m p q) g = near-month m (g .0)

@@ -11,7 +11,7 @@ use Rattle.language.specs.Answer.{Answer, _>>=_, got, onBoth, refused}
 use Rattle.language.specs.Calls.{factorsOf, lookupOf, rangesOf, signOf}
 use Rattle.language.specs.Limits.{maxAmount, maxNodes, maxValue}
 use Rattle.language.specs.Payments.Pays.{Tried, hit, miss, started}
-use Rattle.language.specs.Payoff.Evaluate.{checkedHolds, checkedTried, checkedValue, checkedWorth, inRange}
+use Rattle.language.specs.Payoff.Evaluate.{checkedTried, checkedValue, checkedWorth, inRange}
 use Rattle.language.specs.Rules.Table.{Table, factorAt, readable, valueAt}
 use Rattle.language.specs.Text.Number.{between}
 use Rattle.language.specs.Text.Trees.{Amount, Payoff, Test}
@@ -37,14 +37,10 @@ module _ (h f : ℤ) (factors bounds values : List ℤ) (p q : ℤ) where
   abbrev table : Table
   table = tableOf h f factors bounds values
 
-  -- an amount or test doesn't look at the factors
+  -- an amount doesn't look at the factors
   same-value : (a : Amount ℤ) (w : ℕ) → valueIn h f bounds values a w ≡ checkedValue (lookupOf table) (readable table) maxAmount a w
   unfolding valueAt
   same-value a w = refl
-
-  same-test : (t : Test ℤ) (w : ℕ) → testIn h f bounds values t w ≡ checkedHolds (lookupOf table) (readable table) maxAmount t w
-  unfolding valueAt
-  same-test t w = refl
 
   pub part-small : (x : Payoff ℕ ℤ) (start w : ℕ) (v : Worth) → worthAnswer v ≡ worthIn table p q start x w → SmallWorth v
   part-small x start w v e = worth-small (rangesOf table) (lookupOf table) (factorsOf table) (signOf p q) start refl x w v e

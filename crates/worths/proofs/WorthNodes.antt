@@ -11,7 +11,7 @@ use Rattle.nodes.specs.Letters.{payoffLetter}
 use Rattle.nodes.specs.Stands.{AmountStands, Forward, PayoffStands, TestStands, payoffAsks}
 use Rattle.nodes.specs.Table.{linkAt, natOf, slotAt}
 use Rattle.nodes.specs.declared.PayoffLetter.{PayoffLetter}
-use Rattle.worths.specs.Ranges.{InRange}
+use Rattle.worths.specs.Ranges.{FieldsIn}
 
 -- the payoff that a letter makes of a node's row and parts, with `left` levels left at the node
 abbrev pub payoffOf : List ℤ → ℕ → ℕ → PayoffLetter → Payoff ℕ ℤ
@@ -38,12 +38,12 @@ pub record PayoffNode (nodes : List ℤ) (left at : ℕ) (l : PayoffLetter) : Ty
   pub inside : at < maxNodes
   pub stands : payoffStandsBy nodes left at l
   pub tree : payoffAt natOf offsetOf left nodes at ≡ payoffOf nodes left at l
-  pub range : InRange (payoffOf nodes left at l)
+  pub range : FieldsIn (payoffOf nodes left at l)
 
 less-one : (n : ℕ) → suc n - 1 ≡ n
 less-one n = omega arith
 
-at-payoff : (nodes : List ℤ) (left at : ℕ) → PayoffStands left nodes at → InRange (payoffAt natOf offsetOf left nodes at) → PayoffNode nodes left at (payoffLetter (slotAt nodes at 0))
+at-payoff : (nodes : List ℤ) (left at : ℕ) → PayoffStands left nodes at → FieldsIn (payoffAt natOf offsetOf left nodes at) → PayoffNode nodes left at (payoffLetter (slotAt nodes at 0))
 unfolding PayoffStands payoffAt
 at-payoff nodes zero at h g = absurd h
 at-payoff nodes (suc left) at h g = record { some = omega arith; inside = h .0; stands = rw (less-one left) (h .1); tree = rw (less-one left); range = rw (less-one left) g }
@@ -54,6 +54,6 @@ payoff-inside nodes zero at h = absurd h
 payoff-inside nodes (suc left) at h = h .0
 
 -- l is the letter that the code finds, k that of the arm
-pub payoff-node : {nodes : List ℤ} {left at : ℕ} → PayoffStands left nodes at → InRange (payoffAt natOf offsetOf left nodes at)
+pub payoff-node : {nodes : List ℤ} {left at : ℕ} → PayoffStands left nodes at → FieldsIn (payoffAt natOf offsetOf left nodes at)
     → {l k : PayoffLetter} → l ≡ payoffLetter (slotAt nodes at 0) → l ≡ k → PayoffNode nodes left at k
 payoff-node {nodes} {left} {at} h g el e = subst (PayoffNode nodes left at) (sym el ∙ e) (at-payoff nodes left at h g)

@@ -15,7 +15,7 @@ use Rattle.language.specs.Payoff.Evaluate.{checkedTried}
 use Rattle.nodes.specs.Table.{natOf, slotAt}
 use Rattle.nodes.specs.declared.PayoffLetter.the-variants as letter
 use Rattle.worths.proofs.WorthNodes.{PayoffNode}
-use Rattle.worths.specs.Ranges.{InRange, Waited, WaitedAt}
+use Rattle.worths.specs.Ranges.{FieldsIn, Waited, WaitedAt}
 use Rattle.worths.specs.Waits.{WaitsIn}
 
 -- ---- a wait ends at most d months later
@@ -49,12 +49,9 @@ waited {left} h = record { known = h .known; within = omega (arith, h .within) }
 pub same-waited : {left : ℕ} {w : ℤ} → 0 < left → WaitedAt left w → WaitedAt (left - 1) w
 same-waited {left} {w} s h = record { known = h .known; within = omega (arith, h .within) }
 
-known-delay : (n : ℕ) → T (nonNeg (pos n))
-known-delay n = tt
-
 module _ {nodes : List ℤ} {left at : ℕ} (n : PayoffNode nodes left at letter.Await) where
   short : natOf (slotAt nodes at 1) ≤ maxMonths
-  unfolding InRange
+  unfolding FieldsIn
   short = n .range .0
 
   module _ {w d : ℤ} (h : WaitedAt left w) (ed : d ≡ pos (natOf (slotAt nodes at 1))) where

@@ -28,12 +28,12 @@ pub record WaitedAt (left : ℕ) (month : ℤ) : Type 0 where
   pub within : natOf month + 600 * left ≤ maxMonth
 
 -- the fields of a filled payoff are in range
-unfoldable pub InRange : Payoff ℕ ℤ → Type 0
-InRange nil = Unit {0}
-InRange (leaf k m p q) = Near m
-InRange (times a x) = fieldsOfAmount Near a × InRange x
-InRange (plus x y) = InRange x × InRange y
-InRange (await d t x y) = (d ≤ maxMonths) × fieldsOfTest Near t × InRange x × InRange y
+unfoldable pub FieldsIn : Payoff ℕ ℤ → Type 0
+FieldsIn nil = Unit {0}
+FieldsIn (leaf k m p q) = Near m
+FieldsIn (times a x) = fieldsOfAmount Near a × FieldsIn x
+FieldsIn (plus x y) = FieldsIn x × FieldsIn y
+FieldsIn (await d t x y) = (d ≤ maxMonths) × fieldsOfTest Near t × FieldsIn x × FieldsIn y
 
 -- the values of a table that keeps the rules
 pub record Readable (h f : ℤ) (bounds values : List ℤ) : Type 0 where

@@ -9,7 +9,7 @@ ghost use Rattle.pays.specs.Parties.{PairIn};
 ghost use Rattle.tables.specs.Given.{tableOf};
 ghost use Rattle.worths.specs.Answers.{worthAnswer};
 ghost use Rattle.worths.specs.Checked.{worthIn};
-ghost use Rattle.worths.specs.Ranges.{InRange, Payable, Readable, WaitedAt};
+ghost use Rattle.worths.specs.Ranges.{FieldsIn, Payable, Readable, WaitedAt};
 use crate::answers;
 use crate::answers::Worth;
 use crate::leaf;
@@ -36,7 +36,7 @@ pub fn payoff_worth(
     left: usize,
 ) -> Worth
     requires { ⌜ Readable (span .h) (span .f) (now bounds) (now values) × Payable (span .f) (now factors) × WaitedAt left (waited .0) × T (nonNeg (start .0)) × PairIn (pair .p) (pair .q)
-        × PayoffStands left (now nodes) at × InRange (payoffAt natOf offsetOf left (now nodes) at) ⌝ }
+        × PayoffStands left (now nodes) at × FieldsIn (payoffAt natOf offsetOf left (now nodes) at) ⌝ }
     ensures { λ r. ⌜ worthAnswer r ≡ worthIn (tableOf (span .h) (span .f) (now (factors .entry)) (now (bounds .entry)) (now (values .entry))) (pair .p) (pair .q) (natOf (start .0))
         (payoffAt natOf offsetOf left (now (nodes .entry)) at) (natOf (waited .0)) ⌝ }
 {

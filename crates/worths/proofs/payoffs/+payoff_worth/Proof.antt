@@ -7,7 +7,7 @@ use Rattle.nodes.specs.declared.PayoffLetter.{PayoffLetter}
 use Rattle.language.specs.Payments.Pays.{hit, miss}
 use Rattle.worths.proofs.Bounds.{valued-small}
 use Rattle.worths.proofs.WorthNodes.{PayoffNode, payoff-inside, payoff-node}
-use Rattle.worths.specs.Ranges.{InRange}
+use Rattle.worths.specs.Ranges.{FieldsIn}
 use Rattle.worths.specs.Waits.{WaitKnown, waitAnswer}
 use Prim.Native.Nat.{_<_, ℕ}
 use borrow.Fn.Kinds.{In}
@@ -54,7 +54,7 @@ payoff-worth-letter-requires : (t : ℕ) → payoff-worth-lts.Need-letter-requir
 payoff-worth-letter-requires t c κs = payoff-inside _ _ _ (c .pre .1 .5)
 
 payoff-worth-leaf-worth-requires : (t : ℕ) → payoff-worth-lts.Need-leaf-worth-requires (payoff-worth-calls t) (payoff-worth-at t) payoff-worth.Post
-unfolding InRange
+unfolding FieldsIn
 payoff-worth-leaf-worth-requires t c κs =
     let s = c .before .before .before in
     let h = s .pre .1 in
@@ -62,7 +62,7 @@ payoff-worth-leaf-worth-requires t c κs =
     (n .inside, h .1, parts.waited (h .2), h .4, n .range)
 
 payoff-worth-leaf-worth-requires-2 : (t : ℕ) → payoff-worth-lts.Need-leaf-worth-requires-2 (payoff-worth-calls t) (payoff-worth-at t) payoff-worth.Post
-unfolding InRange
+unfolding FieldsIn
 payoff-worth-leaf-worth-requires-2 t c κs =
     let s = c .before .before .before in
     let h = s .pre .1 in
@@ -75,7 +75,7 @@ payoff-worth-add-checked-value t c =
     record { fits = omega (arith, n .inside) }
 
 payoff-worth-checked-value-requires : (t : ℕ) → payoff-worth-lts.Need-checked-value-requires (payoff-worth-calls t) (payoff-worth-at t) payoff-worth.Post
-unfolding InRange
+unfolding FieldsIn
 payoff-worth-checked-value-requires t c κs =
     let s = c .before .before .before in
     let h = s .pre .1 in
@@ -93,7 +93,7 @@ payoff-worth-sub-payoff-worth t c =
     omega (arith, n .some)
 
 payoff-worth-payoff-worth-requires : (t : ℕ) → payoff-worth-lts.Need-payoff-worth-requires (payoff-worth-calls t) (payoff-worth-at t) payoff-worth.Post
-unfolding InRange
+unfolding FieldsIn
 payoff-worth-payoff-worth-requires t c κs =
     let s = c .before .before .before .before .before in
     let h = s .pre .1 in
@@ -120,7 +120,7 @@ payoff-worth-sub-payoff-worth-2 t c =
     omega (arith, n .some)
 
 payoff-worth-payoff-worth-requires-2 : (t : ℕ) → payoff-worth-lts.Need-payoff-worth-requires-2 (payoff-worth-calls t) (payoff-worth-at t) payoff-worth.Post
-unfolding InRange
+unfolding FieldsIn
 payoff-worth-payoff-worth-requires-2 t c κs =
     let s = c .before .before .before in
     let h = s .pre .1 in
@@ -138,7 +138,7 @@ payoff-worth-sub-payoff-worth-3 t c =
     omega (arith, n .some)
 
 payoff-worth-payoff-worth-requires-3 : (t : ℕ) → payoff-worth-lts.Need-payoff-worth-requires-3 (payoff-worth-calls t) (payoff-worth-at t) payoff-worth.Post
-unfolding InRange
+unfolding FieldsIn
 payoff-worth-payoff-worth-requires-3 t c κs =
     let s = c .before .before .before .before .before in
     let h = s .pre .1 in
@@ -165,7 +165,7 @@ payoff-worth-add-wait-for t c =
     record { fits = omega (arith, n .inside) }
 
 payoff-worth-wait-for-requires : (t : ℕ) → payoff-worth-lts.Need-wait-for-requires (payoff-worth-calls t) (payoff-worth-at t) payoff-worth.Post
-unfolding InRange
+unfolding FieldsIn
 payoff-worth-wait-for-requires t c κs =
     let s = c .before .before .before .before in
     let h = s .pre .1 in
@@ -183,7 +183,7 @@ payoff-worth-sub-payoff-worth-4 t c =
     omega (arith, n .some)
 
 payoff-worth-payoff-worth-requires-4 : (t : ℕ) → payoff-worth-lts.Need-payoff-worth-requires-4 (payoff-worth-calls t) (payoff-worth-at t) payoff-worth.Post
-unfolding InRange
+unfolding FieldsIn
 payoff-worth-payoff-worth-requires-4 t c κs =
     let s = c .before .before .before .before .before .before .before .before .before in
     let h = s .pre .1 in
@@ -204,7 +204,7 @@ payoff-worth-sub-payoff-worth-5 t c =
     omega (arith, n .some)
 
 payoff-worth-payoff-worth-requires-5 : (t : ℕ) → payoff-worth-lts.Need-payoff-worth-requires-5 (payoff-worth-calls t) (payoff-worth-at t) payoff-worth.Post
-unfolding InRange
+unfolding FieldsIn
 payoff-worth-payoff-worth-requires-5 t c κs =
     let s = c .before .before .before .before .before .before .before .before .before in
     let h = s .pre .1 in
