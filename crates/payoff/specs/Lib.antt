@@ -1,3 +1,4 @@
--- Cutting in the node table, and what the calls on payoffs answer.
+-- Cutting and evaluating in the node table, and what the calls on payoffs answer.
 pub mod Answers
 pub mod Cut
+pub mod Evaluating

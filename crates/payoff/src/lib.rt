@@ -1,15 +1,27 @@
-// Payoffs: compiling and cutting.
+// Payoffs: compiling, cutting and evaluating.
 ghost use mathlib.Core.Path.{_≡_};
 ghost use Prim.Native.Nat.{_*_, _+_, _≤_};
 ghost use lib.ListN.{length};
-ghost use Rattle.language.specs.Calls.{compileCall, cutCall};
+ghost use mathlib.Core.Bool.{_&&_};
+ghost use lib.IntN.{pos};
+ghost use Rattle.language.specs.Calls.{compileCall, cutCall, evaluateCall, pairOk};
+ghost use Rattle.language.specs.Text.Number.{between};
 ghost use Rattle.nodes.specs.Pass.{mapRows, rowFrom, withRow};
 ghost use Rattle.payoff.specs.Answers.{writingAnswer};
 ghost use Rattle.payoff.specs.Cut.{cutRow};
+ghost use Rattle.payoff.specs.Evaluating.{EvaluateIs, Stands, evaluatingAnswer, givenOf};
+ghost use Rattle.worths.specs.Answers.{worthAnswer};
 ghost use Rattle.writer.specs.Answers.{writtenAnswer};
 use compiles::months::Months;
+use integers::Millionths;
+use integers::Month;
+use pays::Pair;
+use tables::Span;
+use tables::fill::Filling;
 use text::Reading;
 use text::Refusal;
+use worths::answers::Worth;
+use worths::payoffs;
 use writer::Written;
 
 pub enum Writing {
@@ -88,5 +100,107 @@ pub fn compile(text: &[u8], out: &mut [u8]) -> Writing
             told(writer::write_text(&next, n, out))
         }
         Reading::Refused(refusal) => Writing::Refused(refusal),
+
+// ---- evaluating
+
+pub enum Evaluating {
+    Value(Millionths),
+    Refused(Refusal),
+}
+
+fn evaluated(worth: Worth) -> Evaluating
+    ensures { λ r. ⌜ evaluatingAnswer r ≡ worthAnswer worth ⌝ }
+{
+    match worth {
+        Worth::Value(v) => Evaluating::Value(v),
+        Worth::Refused(k) => Evaluating::Refused(k),
+    }
+}
+
+// The month now and the pair.
+fn caller_ok(span: Span, month: Month, pair: Pair) -> bool
+    ensures { λ r. ⌜ r ≡ between (pos 0) (span .f) (month .0) && pairOk (pair .p) (pair .q) ⌝ }
+{
+    tables::month_ok(span.f, month.0) & (tables::party_ok(pair.p) & tables::party_ok(pair.q))
+}
+
+// A payoff that was read: 9, 12, 8, then its value. Its open settings are filled in the table.
+pub fn evaluate_nodes(
+    nodes: &mut [i64; 2560],
+    count: usize,
+    days: &[i64],
+    span: Span,
+    factors: &[i64],
+    bounds: &[i64],
+    values: &[i64],
+    month: Month,
+    pair: Pair,
+) -> Evaluating
+    requires { ⌜ Stands (now nodes) count ⌝ }
+    ensures { λ r. ⌜ EvaluateIs
+        (givenOf (now (days .entry)) (span .h) (span .f) (now (factors .entry)) (now (bounds .entry)) (now (values .entry)))
+        (pair .p) (pair .q) (month .0) count (now (nodes .entry)) r ⌝ }
+{
+    if tables::table_ok(span, factors, bounds, values) {
+        if caller_ok(span, month, pair) {
+            if tables::settings_ok(days) {
+                let filling = settling::settle_rows(nodes, count, days);
+                match filling {
+                    Filling::Filled => evaluated(payoffs::payoff_worth(
+                        nodes,
+                        factors,
+                        values,
+                        bounds,
+                        span,
+                        Month(0),
+                        month,
+                        pair,
+                        0,
+                        32,
+                    )),
+                    Filling::Unset => Evaluating::Refused(Refusal::Settings),
+                }
+            } else {
+                Evaluating::Refused(Refusal::Settings)
+            }
+        } else {
+            Evaluating::Refused(Refusal::Caller)
+        }
+    } else {
+        Evaluating::Refused(Refusal::Table)
+    }
+}
+
+// What a payoff is worth to the pair (p, q) in millionths of a penny, `month` being the month now, or the refusal.
+pub fn evaluate(
+    text: &[u8],
+    days: &[i64],
+    h: i64,
+    f: i64,
+    factors: &[i64],
+    bounds: &[i64],
+    values: &[i64],
+    month: i64,
+    p: i64,
+    q: i64,
+) -> Evaluating
+    ensures { λ r. ⌜ evaluatingAnswer r ≡ evaluateCall (now (text .entry))
+        (givenOf (now (days .entry)) h f (now (factors .entry)) (now (bounds .entry)) (now (values .entry))) p q month ⌝ }
+{
+    let mut nodes = [0i64; 2560];
+    let reading = text::read_payoff(text, &mut nodes);
+    match reading {
+        Reading::Nodes(count) => evaluate_nodes(
+            &mut nodes,
+            count,
+            days,
+            Span { h: h, f: f },
+            factors,
+            bounds,
+            values,
+            Month(month),
+            Pair { p: p, q: q },
+        ),
+        Reading::Refused(refusal) => Evaluating::Refused(refusal),
     }
 }

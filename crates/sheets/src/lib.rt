@@ -69,16 +69,7 @@ pub fn answer(
         Checking::Accepted(length, magnitude) => {
             places::place_rows(nodes, count, span);
             let mut column = [0i64; 601];
-            columns::plan_column(
-                nodes,
-                values,
-                Month(0),
-                pair,
-                Pence(1),
-                &mut column,
-                0,
-                32,
-            );
+            columns::plan_column(nodes, values, Month(0), pair, Pence(1), &mut column, 0, 32);
             let mut rest = [0i64; 601];
             let months = span.f as usize + 1;
             remaining::add_back(factors, &column, &mut rest, months);

@@ -1,0 +1,53 @@
+use mathlib.Core.Path.{subst}
+use mir.Facts.{toZ-ofZ}
+use Rattle.language.specs.Text.Letters.{payoffForm}
+use Rattle.language.specs.Text.Reader.{readText}
+use Rattle.payoff.proofs.Evaluations.{evaluate-is, evaluate-refuses, read-stands}
+use Rattle.payoff.specs.Evaluating.{givenOf}
+use Rattle.text.specs.ReadInto.{ReadInto}
+use borrow.Author.Needs.{needs}
+use Rattle.payoff.proofs.evaluate.Statement.{statement}
+use Rattle.payoff.proofs.evaluate.Tie as tie
+
+slice-aggregate-read-payoff : tie.Need-slice-aggregate-read-payoff
+slice-aggregate-read-payoff c = search needs
+
+read-payoff-requires : tie.Need-read-payoff-requires
+read-payoff-requires c κs = search needs
+
+enum-known-reading : tie.Need-enum-known-reading
+enum-known-reading c = search needs
+
+evaluate-nodes-requires : tie.Need-evaluate-nodes-requires
+evaluate-nodes-requires c κs =
+    let s = c .before .before .before .before .before .before .before .before in
+    let a = s .args in
+    read-stands (a .text .now) _ _ (subst (ReadInto payoffForm (readText payoffForm (a .text .now)) (c .before .before .before .before .before .read-payoff .last .1 .0)) (c .before .before .reading .given .1) (c .before .before .before .before .before .read-payoff .ensures .0))
+
+enum-known-reading-2 : tie.Need-enum-known-reading-2
+enum-known-reading-2 c = search needs
+
+returns : tie.Need-returns
+returns c =
+    let s = c .before .before .before .before .before .before .before .before .before in
+    let a = s .args in
+    evaluate-is (a .text .now) (c .before .before .before .before .before .before .read-payoff .last .1 .0) _ (subst (ReadInto payoffForm (readText payoffForm (a .text .now)) (c .before .before .before .before .before .before .read-payoff .last .1 .0)) (c .before .before .before .reading .given .1) (c .before .before .before .before .before .before .read-payoff .ensures .0)) (givenOf (a .days .now) (a .h) (a .f) (a .factors .now) (a .bounds .now) (a .values .now)) (a .p) (a .q) (a .month)
+    (rw (toZ-ofZ (s .fits .h), toZ-ofZ (s .fits .f), toZ-ofZ (s .fits .month), toZ-ofZ (s .fits .p), toZ-ofZ (s .fits .q)) at (c .evaluate-nodes .ensures))
+
+returns-2 : tie.Need-returns-2
+returns-2 c =
+    let s = c .before .before .before .before .before .before .before in
+    let a = s .args in
+    evaluate-refuses (a .text .now) (givenOf (a .days .now) (a .h) (a .f) (a .factors .now) (a .bounds .now) (a .values .now)) (a .p) (a .q) (a .month) (c .before .reading2 .given .0 .0) (subst (ReadInto payoffForm (readText payoffForm (a .text .now)) (c .before .before .before .before .read-payoff .last .1 .0)) (c .before .reading2 .given .1) (c .before .before .before .before .read-payoff .ensures .0))
+
+pub evaluate-spec : {M : Type 1} → statement M
+evaluate-spec =
+    tie.close
+    (tie.spec
+    slice-aggregate-read-payoff
+    read-payoff-requires
+    enum-known-reading
+    evaluate-nodes-requires
+    enum-known-reading-2
+    returns
+    returns-2)

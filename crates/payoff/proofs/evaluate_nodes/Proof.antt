@@ -1,0 +1,107 @@
+use lib.IntN.{pos}
+use mathlib.Core.Path.{_∙_, subst, sym}
+use Rattle.language.specs.Calls.{pairOk}
+use Rattle.language.specs.Text.Number.{between}
+use native.Mathlib.Omega.{arith}
+use Rattle.language.proofs.Truth.{and-e}
+use Rattle.payoff.proofs.Evaluations as evaluations
+use Rattle.payoff.proofs.TableFacts.{month-known, pair-known, table-pays, table-read}
+use Rattle.settling.specs.Settle.{SettleIs}
+use borrow.Author.Needs.{needs}
+use Rattle.payoff.proofs.evaluate_nodes.Statement.{statement}
+use Rattle.payoff.proofs.evaluate_nodes.Tie as tie
+
+table-ok-requires : tie.Need-table-ok-requires
+table-ok-requires c κs = search needs
+
+caller-ok-requires : tie.Need-caller-ok-requires
+caller-ok-requires c κs = search needs
+
+settings-ok-requires : tie.Need-settings-ok-requires
+settings-ok-requires c κs = search needs
+
+settle-rows-requires : tie.Need-settle-rows-requires
+settle-rows-requires c κs =
+    let s = c .before .before .before .before .before .before .before in
+    let e = sym (c .before .before .settings-ok .ensures) ∙ c .before .if3 .taken in
+    (omega (arith, evaluations.standing-rows (s .pre .standing)), e, evaluations.standing-in (s .pre .standing))
+
+enum-told : tie.Need-enum-told
+enum-told c = search needs
+
+payoff-worth-requires : tie.Need-payoff-worth-requires
+payoff-worth-requires c κs =
+    let s = c .before .before .before .before .before .before .before .before .before .before .before in
+    let a = s .args in
+    let t = sym (c .before .before .before .before .before .before .before .before .before .before .table-ok .ensures) ∙ c .before .before .before .before .before .before .before .before .before .if1 .taken in
+    let m = sym (c .before .before .before .before .before .before .before .before .caller-ok .ensures) ∙ c .before .before .before .before .before .before .before .if2 .taken in
+    let e = sym (c .before .before .before .before .before .before .settings-ok .ensures) ∙ c .before .before .before .before .before .if3 .taken in
+    let u = subst (SettleIs (a .days .now) (a .count) (a .nodes .now) (c .before .before .before .settle-rows .last .0)) (c .before .enum-told .given .1) (c .before .before .before .settle-rows .ensures) in
+    let w = evaluations.walked (a .days .now) (a .span .h) (a .span .f) (a .factors .now) (a .bounds .now) (a .values .now) (a .pair .p) (a .pair .q) (a .month .0) (a .count) (a .nodes .now) t m e u (s .pre) in
+    let b = and-e (between (pos 0) (a .span .f) (a .month .0)) (pairOk (a .pair .p) (a .pair .q)) m in
+    (table-read (a .span .h) (a .span .f) (a .factors .now) (a .bounds .now) (a .values .now) t, table-pays (a .span .h) (a .span .f) (a .factors .now) (a .bounds .now) (a .values .now) t, record { known = tt; within = omega arith }, month-known (a .span .f) (a .month .0) (b .0) .0, pair-known (a .pair .p) (a .pair .q) (b .1), w .0, w .1)
+
+evaluated-requires : tie.Need-evaluated-requires
+evaluated-requires c κs = search needs
+
+enum-told-2 : tie.Need-enum-told-2
+enum-told-2 c = search needs
+
+returns : tie.Need-returns
+returns c =
+    let s = c .before .before .before .before .before .before .before .before .before .before .before .before .before in
+    let a = s .args in
+    let t = sym (c .before .before .before .before .before .before .before .before .before .before .before .before .table-ok .ensures) ∙ c .before .before .before .before .before .before .before .before .before .before .before .if1 .taken in
+    let m = sym (c .before .before .before .before .before .before .before .before .before .before .caller-ok .ensures) ∙ c .before .before .before .before .before .before .before .before .before .if2 .taken in
+    let e = sym (c .before .before .before .before .before .before .before .before .settings-ok .ensures) ∙ c .before .before .before .before .before .before .before .if3 .taken in
+    let u = subst (SettleIs (a .days .now) (a .count) (a .nodes .now) (c .before .before .before .before .before .settle-rows .last .0)) (c .before .before .before .enum-told .given .1) (c .before .before .before .before .before .settle-rows .ensures) in
+    evaluations.valued (a .days .now) (a .span .h) (a .span .f) (a .factors .now) (a .bounds .now) (a .values .now) (a .pair .p) (a .pair .q) (a .month .0) (a .count) (a .nodes .now) t m e u (c .evaluated .ensures ∙ c .before .payoff-worth .ensures)
+
+returns-2 : tie.Need-returns-2
+returns-2 c =
+    let s = c .before .before .before .before .before .before .before .before .before .before in
+    let a = s .args in
+    let t = sym (c .before .before .before .before .before .before .before .before .before .table-ok .ensures) ∙ c .before .before .before .before .before .before .before .before .if1 .taken in
+    let m = sym (c .before .before .before .before .before .before .before .caller-ok .ensures) ∙ c .before .before .before .before .before .before .if2 .taken in
+    let e = sym (c .before .before .before .before .before .settings-ok .ensures) ∙ c .before .before .before .before .if3 .taken in
+    let u = subst (SettleIs (a .days .now) (a .count) (a .nodes .now) (c .before .before .settle-rows .last .0)) (c .enum-told2 .given .1) (c .before .before .settle-rows .ensures) in
+    evaluations.unset (a .days .now) (a .span .h) (a .span .f) (a .factors .now) (a .bounds .now) (a .values .now) (a .pair .p) (a .pair .q) (a .month .0) (a .count) (a .nodes .now) t m e u
+
+returns-3 : tie.Need-returns-3
+returns-3 c =
+    let s = c .before .before .before .before .before .before in
+    let a = s .args in
+    let t = sym (c .before .before .before .before .before .table-ok .ensures) ∙ c .before .before .before .before .if1 .taken in
+    let m = sym (c .before .before .before .caller-ok .ensures) ∙ c .before .before .if2 .taken in
+    evaluations.bad-settings (a .days .now) (a .span .h) (a .span .f) (a .factors .now) (a .bounds .now) (a .values .now) (a .pair .p) (a .pair .q) (a .month .0) (a .count) (a .nodes .now) t m (sym (c .before .settings-ok .ensures) ∙ c .if3 .left)
+
+returns-4 : tie.Need-returns-4
+returns-4 c =
+    let s = c .before .before .before .before in
+    let a = s .args in
+    let t = sym (c .before .before .before .table-ok .ensures) ∙ c .before .before .if1 .taken in
+    evaluations.no-caller (a .days .now) (a .span .h) (a .span .f) (a .factors .now) (a .bounds .now) (a .values .now) (a .pair .p) (a .pair .q) (a .month .0) (a .count) (a .nodes .now) t (sym (c .before .caller-ok .ensures) ∙ c .if2 .left)
+
+returns-5 : tie.Need-returns-5
+returns-5 c =
+    let s = c .before .before in
+    let a = s .args in
+    evaluations.no-table (a .days .now) (a .span .h) (a .span .f) (a .factors .now) (a .bounds .now) (a .values .now) (a .pair .p) (a .pair .q) (a .month .0) (a .count) (a .nodes .now) (sym (c .before .table-ok .ensures) ∙ c .if1 .left)
+
+pub evaluate-nodes-spec : {M : Type 1} → statement M
+evaluate-nodes-spec =
+    tie.close
+    (tie.spec
+    table-ok-requires
+    caller-ok-requires
+    settings-ok-requires
+    settle-rows-requires
+    enum-told
+    payoff-worth-requires
+    evaluated-requires
+    enum-told-2
+    returns
+    returns-2
+    returns-3
+    returns-4
+    returns-5)

@@ -1,0 +1,3 @@
+-- Open settings filled in a payoff's node table.
+pub mod Settle
+pub mod Sums

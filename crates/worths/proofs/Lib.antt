@@ -1,0 +1,11 @@
+-- Laws of evaluation.
+pub mod Bounds
+pub mod CheckedArms
+pub mod CheckedNodes
+pub mod Combined
+pub mod LeafLaws
+pub mod RowAnswers
+pub mod WaitLoop
+pub mod WorthArms
+pub mod WorthNodes
+pub mod WorthParts

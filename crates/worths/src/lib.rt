@@ -1,0 +1,205 @@
+// What a payoff is worth, with refusals 11 and 14 as evaluation meets them: amounts and tests.
+ghost use mathlib.Core.Path.{_≡_};
+ghost use Rattle.language.specs.Text.Form.{fieldsOfAmount, fieldsOfTest};
+ghost use Rattle.nodes.specs.Found.{amountAt, offsetOf, testAt};
+ghost use Rattle.nodes.specs.Stands.{AmountStands, TestStands};
+ghost use Rattle.nodes.specs.Table.{natOf};
+ghost use Rattle.worths.specs.Answers.{testedAnswer, valuedAnswer};
+ghost use Rattle.worths.specs.Checked.{testIn, valueIn};
+ghost use Rattle.worths.specs.Ranges.{Near, Readable, Waited};
+use answers::Tested;
+use answers::Valued;
+use integers::Month;
+use integers::Pence;
+use nodes::AmountLetter;
+use nodes::TestLetter;
+use tables::Span;
+
+pub mod answers;
+pub mod leaf;
+pub mod payoffs;
+pub mod rows;
+pub mod wait;
+
+// The amount at a node, with some months waited: a number without a call.
+pub fn checked_operand(
+    nodes: &[i64; 2560],
+    values: &[i64],
+    bounds: &[i64],
+    span: Span,
+    waited: Month,
+    at: usize,
+    left: usize,
+) -> Valued
+    requires { ⌜ Readable (span .h) (span .f) (now bounds) (now values) × Waited (waited .0) × AmountStands left (now nodes) at × fieldsOfAmount Near (amountAt offsetOf left (now nodes) at) ⌝ }
+    ensures { λ r. ⌜ valuedAnswer r ≡ valueIn (span .h) (span .f) (now (bounds .entry)) (now (values .entry)) (amountAt offsetOf left (now (nodes .entry)) at) (natOf (waited .0)) ⌝ }
+{
+    let x = nodes::slot(nodes, at, 0);
+    match x {
+        78 => rows::number(nodes, at),
+        _ => checked_value(nodes, values, bounds, span, waited, at, left),
+    }
+}
+
+// The amount at a node of any letter; of an `I` only the chosen branch.
+pub fn checked_value(
+    nodes: &[i64; 2560],
+    values: &[i64],
+    bounds: &[i64],
+    span: Span,
+    waited: Month,
+    at: usize,
+    left: usize,
+) -> Valued
+    requires { ⌜ Readable (span .h) (span .f) (now bounds) (now values) × Waited (waited .0) × AmountStands left (now nodes) at × fieldsOfAmount Near (amountAt offsetOf left (now nodes) at) ⌝ }
+    ensures { λ r. ⌜ valuedAnswer r ≡ valueIn (span .h) (span .f) (now (bounds .entry)) (now (values .entry)) (amountAt offsetOf left (now (nodes .entry)) at) (natOf (waited .0)) ⌝ }
+{
+    let letter = nodes::amount_letter(nodes::slot(nodes, at, 0));
+    match letter {
+        AmountLetter::Number => rows::number(nodes, at),
+        AmountLetter::Index => rows::reading(nodes, values, bounds, span, waited, at),
+        AmountLetter::Sum => {
+            let x = checked_operand(nodes, values, bounds, span, waited, at + 1, left - 1);
+            let y = checked_operand(
+                nodes,
+                values,
+                bounds,
+                span,
+                waited,
+                nodes::link(nodes, at, 3),
+                left - 1,
+            );
+            answers::sum_of(x, y)
+        }
+        AmountLetter::Difference => {
+            let x = checked_operand(nodes, values, bounds, span, waited, at + 1, left - 1);
+            let y = checked_operand(
+                nodes,
+                values,
+                bounds,
+                span,
+                waited,
+                nodes::link(nodes, at, 3),
+                left - 1,
+            );
+            answers::difference_of(x, y)
+        }
+        AmountLetter::Product => {
+            let x = checked_operand(nodes, values, bounds, span, waited, at + 1, left - 1);
+            let y = checked_operand(
+                nodes,
+                values,
+                bounds,
+                span,
+                waited,
+                nodes::link(nodes, at, 3),
+                left - 1,
+            );
+            answers::product_of(x, y)
+        }
+        AmountLetter::Quotient => {
+            let x = checked_operand(nodes, values, bounds, span, waited, at + 1, left - 1);
+            rows::over(nodes, at, x)
+        }
+        AmountLetter::Choose => {
+            let t = checked_holds(nodes, values, bounds, span, waited, at + 1, left - 1);
+            match t {
+                Tested::Holds => checked_operand(
+                    nodes,
+                    values,
+                    bounds,
+                    span,
+                    waited,
+                    nodes::link(nodes, at, 3),
+                    left - 1,
+                ),
+                Tested::Fails => checked_operand(
+                    nodes,
+                    values,
+                    bounds,
+                    span,
+                    waited,
+                    nodes::link(nodes, at, 4),
+                    left - 1,
+                ),
+                Tested::Refused(k) => Valued::Refused(k),
+            }
+        }
+        AmountLetter::NoAmount => Valued::Value(Pence(0)),
+    }
+}
+
+// Whether the test at a node holds, with some months waited. `Y` and `V` try both sides.
+pub fn checked_holds(
+    nodes: &[i64; 2560],
+    values: &[i64],
+    bounds: &[i64],
+    span: Span,
+    waited: Month,
+    at: usize,
+    left: usize,
+) -> Tested
+    requires { ⌜ Readable (span .h) (span .f) (now bounds) (now values) × Waited (waited .0) × TestStands left (now nodes) at × fieldsOfTest Near (testAt offsetOf left (now nodes) at) ⌝ }
+    ensures { λ r. ⌜ testedAnswer r ≡ testIn (span .h) (span .f) (now (bounds .entry)) (now (values .entry)) (testAt offsetOf left (now (nodes .entry)) at) (natOf (waited .0)) ⌝ }
+{
+    let letter = nodes::test_letter(nodes::slot(nodes, at, 0));
+    match letter {
+        TestLetter::Less => {
+            let x = checked_operand(nodes, values, bounds, span, waited, at + 1, left - 1);
+            let y = checked_operand(
+                nodes,
+                values,
+                bounds,
+                span,
+                waited,
+                nodes::link(nodes, at, 3),
+                left - 1,
+            );
+            answers::less_than(x, y)
+        }
+        TestLetter::Equal => {
+            let x = checked_operand(nodes, values, bounds, span, waited, at + 1, left - 1);
+            let y = checked_operand(
+                nodes,
+                values,
+                bounds,
+                span,
+                waited,
+                nodes::link(nodes, at, 3),
+                left - 1,
+            );
+            answers::equal_to(x, y)
+        }
+        TestLetter::Conjunction => {
+            let x = checked_holds(nodes, values, bounds, span, waited, at + 1, left - 1);
+            let y = checked_holds(
+                nodes,
+                values,
+                bounds,
+                span,
+                waited,
+                nodes::link(nodes, at, 3),
+                left - 1,
+            );
+            answers::both_hold(x, y)
+        }
+        TestLetter::Disjunction => {
+            let x = checked_holds(nodes, values, bounds, span, waited, at + 1, left - 1);
+            let y = checked_holds(
+                nodes,
+                values,
+                bounds,
+                span,
+                waited,
+                nodes::link(nodes, at, 3),
+                left - 1,
+            );
+            answers::one_holds(x, y)
+        }
+        TestLetter::Negation => {
+            let x = checked_holds(nodes, values, bounds, span, waited, at + 1, left - 1);
+            answers::opposite(x)
+        }
+        TestLetter::NoTest => Tested::Fails,
+    }
+}

@@ -1,0 +1,124 @@
+// What a payoff is worth to a pair, worked out in the node table.
+ghost use mathlib.Core.Path.{_≡_};
+ghost use lib.Dec.{T};
+ghost use lib.Signed.{nonNeg};
+ghost use Rattle.nodes.specs.Found.{offsetOf, payoffAt};
+ghost use Rattle.nodes.specs.Stands.{PayoffStands};
+ghost use Rattle.nodes.specs.Table.{natOf};
+ghost use Rattle.pays.specs.Parties.{PairIn};
+ghost use Rattle.tables.specs.Given.{tableOf};
+ghost use Rattle.worths.specs.Answers.{worthAnswer};
+ghost use Rattle.worths.specs.Checked.{worthIn};
+ghost use Rattle.worths.specs.Ranges.{FieldsIn, Payable, Readable, WaitedAt};
+use crate::answers;
+use crate::answers::Worth;
+use crate::leaf;
+use crate::rows;
+use crate::wait;
+use crate::wait::Wait;
+use integers::Millionths;
+use integers::Month;
+use nodes::PayoffLetter;
+use pays::Pair;
+use tables::Span;
+
+// The payoff at a node, with some months waited. A leaf that is not cut counts from month 0 on, a cut one from month `start` on.
+pub fn payoff_worth(
+    nodes: &[i64; 2560],
+    factors: &[i64],
+    values: &[i64],
+    bounds: &[i64],
+    span: Span,
+    waited: Month,
+    start: Month,
+    pair: Pair,
+    at: usize,
+    left: usize,
+) -> Worth
+    requires { ⌜ Readable (span .h) (span .f) (now bounds) (now values) × Payable (span .f) (now factors) × WaitedAt left (waited .0) × T (nonNeg (start .0)) × PairIn (pair .p) (pair .q)
+        × PayoffStands left (now nodes) at × FieldsIn (payoffAt natOf offsetOf left (now nodes) at) ⌝ }
+    ensures { λ r. ⌜ worthAnswer r ≡ worthIn (tableOf (span .h) (span .f) (now (factors .entry)) (now (bounds .entry)) (now (values .entry))) (pair .p) (pair .q) (natOf (start .0))
+        (payoffAt natOf offsetOf left (now (nodes .entry)) at) (natOf (waited .0)) ⌝ }
+{
+    let letter = rows::letter(nodes, at);
+    match letter {
+        PayoffLetter::Nil => Worth::Value(Millionths(0)),
+        PayoffLetter::Uncut => leaf::leaf_worth(nodes, factors, span, waited, Month(0), pair, at),
+        PayoffLetter::Cut => leaf::leaf_worth(nodes, factors, span, waited, start, pair, at),
+        PayoffLetter::Times => {
+            let a = crate::checked_value(nodes, values, bounds, span, waited, at + 1, 512);
+            let x = payoff_worth(
+                nodes,
+                factors,
+                values,
+                bounds,
+                span,
+                waited,
+                start,
+                pair,
+                nodes::link(nodes, at, 3),
+                left - 1,
+            );
+            answers::scaled(a, x)
+        }
+        PayoffLetter::Plus => {
+            let x = payoff_worth(
+                nodes,
+                factors,
+                values,
+                bounds,
+                span,
+                waited,
+                start,
+                pair,
+                at + 1,
+                left - 1,
+            );
+            let y = payoff_worth(
+                nodes,
+                factors,
+                values,
+                bounds,
+                span,
+                waited,
+                start,
+                pair,
+                nodes::link(nodes, at, 3),
+                left - 1,
+            );
+            answers::added(x, y)
+        }
+        PayoffLetter::Await => {
+            let d = pays::rows::delay(nodes, at);
+            let w = wait::wait_for(nodes, values, bounds, span, waited, d, at + 1, 512);
+            match w {
+                Wait::Held(k) => payoff_worth(
+                    nodes,
+                    factors,
+                    values,
+                    bounds,
+                    span,
+                    k,
+                    start,
+                    pair,
+                    nodes::link(nodes, at, 3),
+                    left - 1,
+                ),
+                Wait::Missed(last) => payoff_worth(
+                    nodes,
+                    factors,
+                    values,
+                    bounds,
+                    span,
+                    last,
+                    start,
+                    pair,
+                    nodes::link(nodes, at, 4),
+                    left - 1,
+                ),
+                Wait::Refused(k) => Worth::Refused(k),
+            }
+        }
+        PayoffLetter::NoPayoff => Worth::Value(Millionths(0)),
+    }
+}

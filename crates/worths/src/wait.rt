@@ -1,0 +1,57 @@
+// The wait of a payoff's `W`: the first month in which its test holds, the miss, or the test's refusal.
+ghost use mathlib.Core.Path.{_≡_};
+ghost use Rattle.language.specs.Payoff.Evaluate.{checkedTried};
+ghost use Rattle.language.specs.Text.Form.{fieldsOfTest};
+ghost use Rattle.nodes.specs.Found.{offsetOf, testAt};
+ghost use Rattle.nodes.specs.Stands.{TestStands};
+ghost use Rattle.nodes.specs.Table.{natOf};
+ghost use Rattle.worths.specs.Checked.{testIn};
+ghost use Rattle.worths.specs.Ranges.{Near, Readable};
+ghost use Rattle.worths.specs.Waits.{WaitKnown, WaitsIn, waitAnswer};
+use crate::answers::Tested;
+use integers::Month;
+use tables::Span;
+use text::Refusal;
+
+pub enum Wait {
+    Held(Month),
+    Missed(Month),
+    Refused(Refusal),
+}
+
+// The test at a node, tried with `first` months waited and each of the next d.
+pub fn wait_for(
+    nodes: &[i64; 2560],
+    values: &[i64],
+    bounds: &[i64],
+    span: Span,
+    first: Month,
+    d: Month,
+    at: usize,
+    left: usize,
+) -> Wait
+    requires { ⌜ Readable (span .h) (span .f) (now bounds) (now values) × WaitsIn (first .0) (d .0) × TestStands left (now nodes) at × fieldsOfTest Near (testAt offsetOf left (now nodes) at) ⌝ }
+    ensures is { λ r. ⌜ waitAnswer r ≡ checkedTried (testIn (span .h) (span .f) (now (bounds .entry)) (now (values .entry)) (testAt offsetOf left (now (nodes .entry)) at)) (natOf (d .0)) (natOf (first .0)) ⌝ }
+    ensures known { λ r. ⌜ WaitKnown r ⌝ }
+{
+    let last = integers::later(first, d);
+    let mut month = first;
+    loop {
+        let t = crate::checked_holds(nodes, values, bounds, span, month, at, left);
+        match t {
+            Tested::Holds => {
+                break Wait::Held(month);
+            }
+            Tested::Fails => {
+                let next = integers::later(month, Month(1));
+                if last.0 < next.0 {
+                    break Wait::Missed(last);
+                }
+                month = next;
+            }
+            Tested::Refused(k) => {
+                break Wait::Refused(k);
+            }
+        }
+    }
+}
