@@ -100,6 +100,8 @@ pub fn compile(text: &[u8], out: &mut [u8]) -> Writing
             told(writer::write_text(&next, n, out))
         }
         Reading::Refused(refusal) => Writing::Refused(refusal),
+    }
+}
 
 // ---- evaluating
 
