@@ -1,1 +1,4 @@
 -- Laws about the sheet's answers.
+pub mod Accepted
+pub mod AnswerTexts
+pub mod Refusals

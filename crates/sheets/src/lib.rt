@@ -1,7 +1,7 @@
 // The sheet as a call on bytes.
 ghost use mathlib.Core.Path.{_≡_};
-ghost use Prim.Native.Nat.{_≤_};
-ghost use lib.IntN.{pos};
+ghost use Prim.Native.Nat.{suc, _≤_};
+ghost use lib.IntN.{natAbs, pos};
 ghost use lib.ListN.{length};
 ghost use Rattle.language.specs.Calls.{pairOk};
 ghost use Rattle.language.specs.Sheet.{sheetCall};
@@ -9,6 +9,7 @@ ghost use Rattle.language.specs.Text.Trees.{Delay, Plan};
 ghost use Rattle.rules.specs.Answers.{givenOf};
 ghost use Rattle.rules.specs.Standing.{Standing, Stands};
 ghost use Rattle.sheets.specs.Answers.{answerInto, refusalInto};
+ghost use Rattle.tables.specs.Lookup.{KeptSpan};
 ghost use Rattle.text.specs.Refusals.{numberOf};
 ghost use Rattle.writer.specs.Answers.{writtenAnswer};
 use columns::remaining;
@@ -30,6 +31,14 @@ pub fn refuse(refusal: Refusal, out: &mut [u8]) -> Written
 {
     let number = [text::number_of(refusal) as i64];
     printing::write_refusal(&number, out)
+}
+
+// The months from 0 to f.
+fn months_of(span: Span) -> usize
+    requires { ⌜ KeptSpan (span .h) (span .f) ⌝ }
+    ensures { λ r. ⌜ r ≡ suc (natAbs (span .f)) ⌝ }
+{
+    span.f as usize + 1
 }
 
 // The answer for a plan that was read: accepted first, then paid month by month, and what is left from each month on.
@@ -71,9 +80,11 @@ pub fn answer(
             let mut column = [0i64; 601];
             columns::plan_column(nodes, values, Month(0), pair, Pence(1), &mut column, 0, 32);
             let mut rest = [0i64; 601];
-            let months = span.f as usize + 1;
+            let months = months_of(span);
             remaining::add_back(factors, &column, &mut rest, months);
-            let head = [length.0, magnitude.0];
+            let a = integers::magnitude(length.0) as i64;
+            let b = integers::magnitude(magnitude.0) as i64;
+            let head = [a, b];
             printing::write_answer(&head, &column, &rest, months, out)
         }
         Checking::Refused(refusal) => refuse(refusal, out),
