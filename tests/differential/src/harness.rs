@@ -1,0 +1,113 @@
+//! The run: scenario after scenario, until enough calls are compared or one differs.
+
+use crate::calls::{Call, Calls, Kind};
+use crate::compare::{compare, Difference};
+use crate::coverage::Coverage;
+use crate::random::Random;
+use crate::roll::Broken;
+use crate::{replay, scenario, shrink};
+use interpreter::calls::Answer;
+use interpreter::Refusal;
+
+/// What stops a run.
+#[derive(Debug)]
+pub enum Fault {
+    /// A call that both sides answer differently.
+    Call(Box<Difference>),
+    /// A list of month steps in which answers do not fit each other.
+    Roll(Box<Broken>),
+}
+
+/// One side to be compared with the interpreter, and what was compared so far.
+pub struct Harness<'a, C: Calls> {
+    calls: &'a C,
+    /// The calls to be compared; the others are only foretold.
+    pub only: Vec<Kind>,
+    pub coverage: Option<Coverage>,
+    pub compared: u64,
+}
+
+impl<'a, C: Calls> Harness<'a, C> {
+    pub fn new(calls: &'a C, only: &[Kind]) -> Harness<'a, C> {
+        Harness {
+            calls,
+            only: only.to_vec(),
+            coverage: None,
+            compared: 0,
+        }
+    }
+
+    pub fn compares(&self, kind: Kind) -> bool {
+        self.only.contains(&kind)
+    }
+
+    /// Makes the call on both sides; the answer that both give.
+    pub fn compare(&mut self, call: &Call) -> Result<Result<Answer, Refusal>, Fault> {
+        if !self.compares(call.kind) {
+            return Ok(call.foretold());
+        }
+        self.compared += 1;
+        let told = compare(self.calls, call).map_err(Fault::Call)?;
+        if let Some(coverage) = &mut self.coverage {
+            coverage.record(call, &told);
+        }
+        Ok(told)
+    }
+
+    /// Counts something for the coverage table.
+    pub fn count(&mut self, what: &str) {
+        if let Some(coverage) = &mut self.coverage {
+            coverage.count(what);
+        }
+    }
+
+    /// Compares until `calls` calls are made; `watch` is told before each scenario.
+    pub fn run(
+        &mut self,
+        calls: u64,
+        seed: u64,
+        mut watch: impl FnMut(u64, u64),
+    ) -> Result<(), Fault> {
+        let mut index = 0;
+        while self.compared < calls {
+            watch(index, self.compared);
+            scenario::run(&mut Random::of(seed, index), self)?;
+            index += 1;
+        }
+        Ok(())
+    }
+
+    /// The fault with the smallest input that can be found for it.
+    pub fn smallest(&self, fault: Fault) -> Fault {
+        match fault {
+            Fault::Call(found) => {
+                let fails = |call: &Call| compare(self.calls, call).is_err();
+                let call = shrink::smallest_call(found.call, &fails);
+                match compare(self.calls, &call) {
+                    Err(difference) => Fault::Call(difference),
+                    Ok(_) => unreachable!("the smallest call differs still"),
+                }
+            }
+            Fault::Roll(found) => {
+                let broken = |roll: &crate::roll::Roll| {
+                    let mut again = Harness::new(self.calls, &self.only);
+                    match roll.run(&mut again) {
+                        Err(Fault::Roll(broken)) => Some(broken),
+                        _ => None,
+                    }
+                };
+                let roll =
+                    shrink::smallest_roll(found.roll.clone(), &|roll| broken(roll).is_some());
+                Fault::Roll(broken(&roll).unwrap_or(found))
+            }
+        }
+    }
+}
+
+/// The report of a fault, as reproducible text.
+pub fn report(fault: &Fault) -> String {
+    match fault {
+        Fault::Call(difference) => replay::report(difference),
+        Fault::Roll(broken) => broken.report(),
+    }
+}
