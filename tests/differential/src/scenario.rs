@@ -23,8 +23,8 @@ pub fn run<C: Calls>(random: &mut Random, harness: &mut Harness<C>) -> Result<()
         (18, &[Kind::Payment], |r, h| on_plan(r, h, Kind::Payment)),
         (22, &[Kind::Step], |r, h| on_plan(r, h, Kind::Step)),
         (10, &[Kind::Compile], |r, h| on_plan(r, h, Kind::Compile)),
-        (14, &[Kind::Cut], |r, h| on_payoff(r, h, Kind::Cut)),
-        (24, &[Kind::Evaluate], |r, h| {
+        (18, &[Kind::Cut], |r, h| on_payoff(r, h, Kind::Cut)),
+        (30, &[Kind::Evaluate], |r, h| {
             on_payoff(r, h, Kind::Evaluate)
         }),
         (26, &[Kind::Sheet], on_sheet),
@@ -94,7 +94,7 @@ fn on_payoff<C: Calls>(
     let mut scene = Scene::random(random);
     scene.bold = random.chance(25);
     let budget = Budget::random(random);
-    let tree = if random.chance(5) {
+    let tree = if random.chance(8) {
         scene.table.factors[0] = 1_000_000 - random.range(0, 1);
         compiled(&edges::plan(random))
     } else {
@@ -235,7 +235,7 @@ fn on_sheet<C: Calls>(random: &mut Random, harness: &mut Harness<C>) -> Result<(
     } else {
         sheets::text(&lines)
     };
-    if random.below(200) == 0 {
+    if random.chance(1) {
         damage::length(random, &mut sheet, SHEET_BYTES);
     }
     let mut call = Call::of_text(Kind::Sheet, sheet);

@@ -34,9 +34,9 @@ pub fn plan(random: &mut Random) -> Plan {
             times(number(2 * limit.signum()), half)
         }
     };
-    match random.below(6) {
+    match random.below(7) {
         // One beyond, on either side.
-        0 => both(plan, transfer(random)),
+        0 | 3 => both(plan, transfer(random)),
         1 => times(number(2), plan),
         // Taken back in part.
         2 => times(Amount::Quotient(random.range(1, 9), boxed(7)), plan),
