@@ -29,7 +29,7 @@ pub fn run<C: Calls>(random: &mut Random, harness: &mut Harness<C>) -> Result<()
         }),
         (26, &[Kind::Sheet], on_sheet),
         (10, &[Kind::Compile, Kind::Cut, Kind::Evaluate], valuation),
-        (3, &Kind::ALL, roll),
+        (2, &Kind::ALL, roll),
     ];
     let open: Vec<(usize, Play<C>)> = all
         .into_iter()
@@ -47,12 +47,16 @@ fn on_plan<C: Calls>(
 ) -> Result<(), Fault> {
     let scene = Scene::random(random);
     let budget = Budget::random(random);
-    let tree = if random.chance(5) {
-        edges::plan(random)
-    } else {
-        plan(random, &scene, budget)
+    let tree = match random.below(100) {
+        0..=4 => edges::plan(random),
+        5..=8 => edges::timing(random, &scene),
+        _ => plan(random, &scene, budget),
     };
     let mut call = call_in(random, &scene, kind, print::plan(&tree));
+    if kind.takes_table() && random.chance(6) {
+        // Another today than the plan was made for: its months may end or begin too far off.
+        call.today = random.range(0, scene.table.f);
+    }
     if kind == Kind::Payment {
         call.month = month_to_ask(random, &call, &tree);
     }
@@ -92,7 +96,7 @@ fn on_payoff<C: Calls>(
     kind: Kind,
 ) -> Result<(), Fault> {
     let mut scene = Scene::random(random);
-    scene.bold = random.chance(25);
+    scene.bold = random.chance(35);
     let budget = Budget::random(random);
     let tree = if random.chance(8) {
         scene.table.factors[0] = 1_000_000 - random.range(0, 1);

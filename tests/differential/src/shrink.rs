@@ -1,18 +1,22 @@
 //! The smallest input that still shows a fault.
+//!
+//! An input has places, one after the other; at each of them a few smaller inputs are tried. Where
+//! one of these still fails it is taken and the same place is tried again. Rounds over all places
+//! are made until one changes nothing.
 
 use crate::calls::{Call, Kind};
 use crate::generate::sheets;
 use crate::roll::Roll;
-use crate::tree::{smaller_field, smaller_number, Node};
+use crate::tree::{smaller_field, smaller_number, Text};
 use interpreter::sheet::{read_sheet, Sheet};
 use interpreter::Table;
 
 /// More tries than this are not made.
-const TRIES: usize = 40_000;
+const TRIES: usize = 60_000;
 
 /// Makes a call smaller as long as it fails.
 pub fn smallest_call(call: Call, fails: &dyn Fn(&Call) -> bool) -> Call {
-    smallest(call, &smaller_calls, &weight, fails)
+    smallest(call, &call_at, &weight, fails)
 }
 
 /// Makes a roll smaller as long as it fails.
@@ -21,28 +25,33 @@ pub fn smallest_roll(roll: Roll, fails: &dyn Fn(&Roll) -> bool) -> Roll {
         let (parts, bits) = weight(&roll.first);
         (parts + roll.events.len(), bits)
     };
-    smallest(roll, &smaller_rolls, &weigh, fails)
+    smallest(roll, &roll_at, &weigh, fails)
 }
 
 fn smallest<T>(
-    mut at: T,
-    smaller: &dyn Fn(&T) -> Vec<T>,
+    mut input: T,
+    at: &dyn Fn(&T, usize) -> Option<Vec<T>>,
     weigh: &dyn Fn(&T) -> (usize, u64),
     fails: &dyn Fn(&T) -> bool,
 ) -> T {
     let mut tries = 0;
-    'again: loop {
-        for next in smaller(&at) {
-            tries += 1;
-            if tries > TRIES {
-                return at;
-            }
-            if weigh(&next) < weigh(&at) && fails(&next) {
-                at = next;
-                continue 'again;
+    loop {
+        let before = weigh(&input);
+        let mut place = 0;
+        while let Some(smaller) = at(&input, place) {
+            let weight = weigh(&input);
+            let next = smaller.into_iter().find(|next| {
+                tries += 1;
+                tries <= TRIES && weigh(next) < weight && fails(next)
+            });
+            match next {
+                Some(next) => input = next,
+                None => place += 1,
             }
         }
-        return at;
+        if weigh(&input) == before {
+            return input;
+        }
     }
 }
 
@@ -77,42 +86,110 @@ fn weight(call: &Call) -> (usize, u64) {
     (parts, total)
 }
 
-fn smaller_calls(call: &Call) -> Vec<Call> {
-    let mut found = vec![];
-    if call.kind == Kind::Sheet {
-        let texts = match read_sheet(&call.text) {
-            Ok(sheet) => smaller_sheets(&sheet),
-            Err(_) => smaller_lines(&call.text),
+/// The places of a roll: its calls, then those of its first plan.
+fn roll_at(roll: &Roll, place: usize) -> Option<Vec<Roll>> {
+    if let Some(place) = place.checked_sub(roll.events.len()) {
+        let firsts = call_at(&roll.first, place)?;
+        let with = |first| Roll {
+            first,
+            events: roll.events.clone(),
         };
-        found.extend(texts.into_iter().map(|text| Call {
+        return Some(firsts.into_iter().map(with).collect());
+    }
+    let mut changed = roll.clone();
+    changed.events.remove(roll.events.len() - 1 - place);
+    Some(vec![changed])
+}
+
+/// The places of a call: those of text and table together, of its text, its table, its settings and
+/// its own numbers.
+fn call_at(call: &Call, place: usize) -> Option<Vec<Call>> {
+    let Some(place) = place.checked_sub(1) else {
+        return Some(shorter_calls(call));
+    };
+    let texts = |texts: Vec<Vec<u8>>| {
+        let with = |text| Call {
             text,
             ..call.clone()
-        }));
-    } else {
-        found.extend(smaller_texts(&call.text).into_iter().map(|text| Call {
-            text,
+        };
+        texts.into_iter().map(with).collect()
+    };
+    let (text_places, text_at): (usize, fn(&[u8], usize) -> Vec<Vec<u8>>) = match call.kind {
+        Kind::Sheet => (sheet_places(&call.text), sheet_at),
+        _ => (text_places(&call.text), text_at),
+    };
+    let Some(place) = place.checked_sub(text_places) else {
+        return Some(texts(text_at(&call.text, place)));
+    };
+    let Some(place) = place.checked_sub(table_places(&call.table)) else {
+        let with = |table| Call {
+            table,
             ..call.clone()
-        }));
-    }
-    found.extend(smaller_tables(&call.table).into_iter().map(|table| Call {
-        table,
-        ..call.clone()
-    }));
-    found.extend(smaller_lists(&call.days).into_iter().map(|days| Call {
-        days,
-        ..call.clone()
-    }));
-    // Buffers that follow the text as it shrinks.
-    for size in [call.out / 2, call.out.saturating_sub(1), call.answer] {
-        found.push(Call {
-            out: size,
+        };
+        let tables = table_at(&call.table, place);
+        return Some(tables.into_iter().map(with).collect());
+    };
+    let Some(place) = place.checked_sub(list_places(&call.days)) else {
+        let with = |days| Call {
+            days,
             ..call.clone()
-        });
+        };
+        let lists = list_at(&call.days, place);
+        return Some(lists.into_iter().map(with).collect());
+    };
+    own_at(call, place)
+}
+
+/// Calls whose table has fewer months and whose text has the new f where it had the old one; today
+/// and the month asked as they were, or as much earlier.
+fn shorter_calls(call: &Call) -> Vec<Call> {
+    let shorter = |table: &Table, text: &[u8]| -> Vec<(Table, Vec<u8>)> {
+        let with = |smaller: Table| {
+            let fewer = table.f - smaller.f;
+            let field = |field: &[u8]| {
+                let number = std::str::from_utf8(field).ok().and_then(|n| n.parse().ok());
+                match number {
+                    Some(number) if (table.f - 1..=table.f + 1).contains(&number) => {
+                        (number - fewer).max(0).to_string().into_bytes()
+                    }
+                    _ => field.to_vec(),
+                }
+            };
+            let fields: Vec<Vec<u8>> = text.split(|byte| *byte == b',').map(field).collect();
+            (smaller, fields.join(&b','))
+        };
+        shorter_tables(table).into_iter().map(with).collect()
+    };
+    match (call.kind, read_sheet(&call.text)) {
+        (Kind::Sheet, Ok(sheet)) => shorter(&sheet.table, &sheet.plan)
+            .into_iter()
+            .map(|(table, plan)| Call {
+                text: sheets::text(&sheets::lines(&plan, &sheet.days, &table, sheet.pair)),
+                ..call.clone()
+            })
+            .collect(),
+        _ => shorter(&call.table, &call.text)
+            .into_iter()
+            .flat_map(|(table, text)| {
+                let fewer = call.table.f - table.f;
+                let kept = Call {
+                    table,
+                    text,
+                    ..call.clone()
+                };
+                let earlier = Call {
+                    today: call.today.saturating_sub(fewer),
+                    month: call.month.saturating_sub(fewer),
+                    ..kept.clone()
+                };
+                [kept, earlier]
+            })
+            .collect(),
     }
-    found.push(Call {
-        answer: call.answer.saturating_sub(1),
-        ..call.clone()
-    });
+}
+
+/// The numbers of a call that stand alone.
+fn own_at(call: &Call, place: usize) -> Option<Vec<Call>> {
     type Own = fn(&mut Call) -> &mut i64;
     let own: [Own; 4] = [
         |call| &mut call.today,
@@ -120,145 +197,248 @@ fn smaller_calls(call: &Call) -> Vec<Call> {
         |call| &mut call.p,
         |call| &mut call.q,
     ];
-    for field in own {
-        for number in smaller_number(*field(&mut call.clone())) {
+    if let Some(field) = own.get(place) {
+        let with = |number| {
             let mut changed = call.clone();
             *field(&mut changed) = number;
-            found.push(changed);
-        }
+            changed
+        };
+        let numbers = smaller_number(*field(&mut call.clone()));
+        return Some(numbers.into_iter().map(with).collect());
     }
-    found
-}
-
-fn smaller_rolls(roll: &Roll) -> Vec<Roll> {
-    let mut found = vec![];
-    for at in (0..roll.events.len()).rev() {
-        let mut changed = roll.clone();
-        changed.events.remove(at);
-        found.push(changed);
-    }
-    found.extend(smaller_calls(&roll.first).into_iter().map(|first| Roll {
-        first,
-        events: roll.events.clone(),
-    }));
-    found
-}
-
-/// Smaller texts: by tree where it is one, else by fields and bytes.
-fn smaller_texts(text: &[u8]) -> Vec<Vec<u8>> {
-    if let Some(tree) = Node::read(text) {
-        return tree.smaller().iter().map(Node::text).collect();
-    }
-    smaller_rows(text, b',')
-}
-
-/// A row of parts with fewer or smaller parts.
-fn smaller_rows(text: &[u8], comma: u8) -> Vec<Vec<u8>> {
-    let parts: Vec<&[u8]> = text.split(|byte| *byte == comma).collect();
-    let mut found = vec![];
-    let mut length = parts.len() / 2;
-    while length > 0 {
-        for from in (0..=parts.len() - length).step_by(length.max(1)) {
-            let rest = [&parts[..from], &parts[from + length..]].concat();
-            found.push(rest.join(&comma));
-        }
-        length /= 2;
-    }
-    if parts.len() <= 60 {
-        for (at, part) in parts.iter().enumerate() {
-            for smaller in smaller_field(part) {
-                let mut changed: Vec<Vec<u8>> = parts.iter().map(|part| part.to_vec()).collect();
-                changed[at] = smaller;
-                found.push(changed.join(&comma));
-            }
-        }
-    }
-    if text.len() <= 200 {
-        for at in 0..text.len() {
-            found.push([&text[..at], &text[at + 1..]].concat());
-        }
-    }
-    found
-}
-
-fn smaller_sheets(sheet: &Sheet) -> Vec<Vec<u8>> {
-    let mut found = vec![];
-    let mut put = |changed: Sheet| {
-        let Sheet {
-            plan,
-            days,
-            table,
-            pair,
-        } = changed;
-        found.push(sheets::text(&sheets::lines(&plan, &days, &table, pair)));
+    type Room = fn(&mut Call) -> &mut usize;
+    let rooms: [Room; 2] = [|call| &mut call.out, |call| &mut call.answer];
+    let field = rooms.get(place - own.len())?;
+    let with = |number: i64| {
+        let mut changed = call.clone();
+        *field(&mut changed) = number as usize;
+        changed
     };
-    for plan in smaller_texts(&sheet.plan) {
-        put(Sheet {
-            plan,
-            ..sheet.clone()
-        });
+    let numbers = smaller_number(*field(&mut call.clone()) as i64);
+    Some(numbers.into_iter().map(with).collect())
+}
+
+/// The places of a text: what is left over behind its tree, the tree's nodes, and bytes.
+fn text_places(text: &[u8]) -> usize {
+    let read = Text::read(text);
+    row_places(&read.rest) + read.tree.nodes() + byte_places(text)
+}
+
+fn text_at(text: &[u8], place: usize) -> Vec<Vec<u8>> {
+    let read = Text::read(text);
+    let Some(place) = place.checked_sub(row_places(&read.rest)) else {
+        let with = |rest| Text {
+            rest,
+            tree: read.tree.clone(),
+        };
+        let rows = row_at(&read.rest, place);
+        return rows.into_iter().map(|rest| with(rest).bytes()).collect();
+    };
+    let Some(place) = place.checked_sub(read.tree.nodes()) else {
+        let with = |tree| Text {
+            tree,
+            rest: read.rest.clone(),
+        };
+        let trees = read.tree.smaller_at(place);
+        return trees.into_iter().map(|tree| with(tree).bytes()).collect();
+    };
+    vec![[&text[..place], &text[place + 1..]].concat()]
+}
+
+/// Bytes of a short text can be left out one by one.
+fn byte_places(text: &[u8]) -> usize {
+    match text.len() {
+        short @ 0..=200 => short,
+        _ => 0,
     }
-    for table in smaller_tables(&sheet.table) {
-        put(Sheet {
-            table,
-            ..sheet.clone()
-        });
-    }
-    for days in smaller_lists(&sheet.days) {
-        put(Sheet {
-            days,
-            ..sheet.clone()
-        });
-    }
-    for number in smaller_number(sheet.pair.0) {
-        put(Sheet {
-            pair: (number, sheet.pair.1),
-            ..sheet.clone()
-        });
-    }
-    for number in smaller_number(sheet.pair.1) {
-        put(Sheet {
-            pair: (sheet.pair.0, number),
-            ..sheet.clone()
-        });
+}
+
+/// Pieces of a row of `count` parts: halves, quarters and so on, down to single parts.
+fn pieces(count: usize) -> Vec<(usize, usize)> {
+    let mut found = vec![];
+    let mut length = count.div_ceil(2);
+    while length > 0 {
+        found.extend((0..count).step_by(length).map(|from| (from, length)));
+        length = match length {
+            1 => 0,
+            longer => longer.div_ceil(2),
+        };
     }
     found
 }
 
-/// A sheet that is none: fewer lines, or one line smaller.
-fn smaller_lines(text: &[u8]) -> Vec<Vec<u8>> {
-    let lines: Vec<&[u8]> = text.split(|byte| *byte == b'\n').collect();
-    let mut found = vec![];
-    for at in 0..lines.len() {
-        let rest = [&lines[..at], &lines[at + 1..]].concat();
-        found.push(rest.join(&b'\n'));
-    }
-    for at in 0..lines.len() {
-        for smaller in smaller_rows(lines[at], b',') {
-            let mut changed: Vec<Vec<u8>> = lines.iter().map(|line| line.to_vec()).collect();
-            changed[at] = smaller;
-            found.push(changed.join(&b'\n'));
+fn row_places(fields: &[Vec<u8>]) -> usize {
+    pieces(fields.len()).len() + fields.len()
+}
+
+/// A row with a piece cut out or a field made smaller.
+fn row_at(fields: &[Vec<u8>], place: usize) -> Vec<Vec<Vec<u8>>> {
+    let pieces = pieces(fields.len());
+    let Some(place) = place.checked_sub(pieces.len()) else {
+        let (from, length) = pieces[place];
+        let to = (from + length).min(fields.len());
+        return vec![[&fields[..from], &fields[to..]].concat()];
+    };
+    let with = |smaller: Vec<u8>| {
+        let mut changed = fields.to_vec();
+        changed[place] = smaller;
+        changed
+    };
+    smaller_field(&fields[place])
+        .into_iter()
+        .map(with)
+        .collect()
+}
+
+/// The places of a sheet: those of its parts where it has no fault, else those of its lines.
+fn sheet_places(text: &[u8]) -> usize {
+    match read_sheet(text) {
+        Ok(sheet) => {
+            text_places(&sheet.plan)
+                + table_places(&sheet.table)
+                + list_places(&sheet.days)
+                + list_places(&[sheet.pair.0, sheet.pair.1])
+        }
+        Err(_) => {
+            let lines = text.split(|byte| *byte == b'\n');
+            lines.map(|line| 1 + text_places(line)).sum()
         }
     }
-    found
 }
 
-fn smaller_tables(table: &Table) -> Vec<Table> {
+fn sheet_at(text: &[u8], place: usize) -> Vec<Vec<u8>> {
+    match read_sheet(text) {
+        Ok(sheet) => sound_sheet_at(&sheet, place),
+        Err(_) => lines_at(text, place),
+    }
+}
+
+fn sound_sheet_at(sheet: &Sheet, place: usize) -> Vec<Vec<u8>> {
+    let text = |plan: &[u8], days: &[i64], table: &Table, pair: (i64, i64)| {
+        sheets::text(&sheets::lines(plan, days, table, pair))
+    };
+    let Sheet {
+        plan,
+        days,
+        table,
+        pair,
+    } = sheet;
+    let Some(place) = place.checked_sub(text_places(plan)) else {
+        let plans = text_at(plan, place);
+        return plans
+            .iter()
+            .map(|plan| text(plan, days, table, *pair))
+            .collect();
+    };
+    let Some(place) = place.checked_sub(table_places(table)) else {
+        let tables = table_at(table, place);
+        return tables
+            .iter()
+            .map(|table| text(plan, days, table, *pair))
+            .collect();
+    };
+    let Some(place) = place.checked_sub(list_places(days)) else {
+        let lists = list_at(days, place);
+        return lists
+            .iter()
+            .map(|days| text(plan, days, table, *pair))
+            .collect();
+    };
+    list_at(&[pair.0, pair.1], place)
+        .iter()
+        .filter_map(|pair| <[i64; 2]>::try_from(pair.as_slice()).ok())
+        .map(|[p, q]| text(plan, days, table, (p, q)))
+        .collect()
+}
+
+/// A sheet with a fault: one line less, or one line smaller.
+fn lines_at(text: &[u8], mut place: usize) -> Vec<Vec<u8>> {
+    let lines: Vec<&[u8]> = text.split(|byte| *byte == b'\n').collect();
+    for (at, line) in lines.iter().enumerate() {
+        let places = 1 + text_places(line);
+        if place >= places {
+            place -= places;
+            continue;
+        }
+        if place == 0 {
+            return vec![[&lines[..at], &lines[at + 1..]].concat().join(&b'\n')];
+        }
+        let with = |smaller: Vec<u8>| {
+            let mut changed = lines.clone();
+            changed[at] = &smaller;
+            changed.join(&b'\n')
+        };
+        return text_at(line, place - 1).into_iter().map(with).collect();
+    }
+    vec![]
+}
+
+/// The places of a table: its span, then its lists.
+fn table_places(table: &Table) -> usize {
+    let Table {
+        factors,
+        bounds,
+        values,
+        ..
+    } = table;
+    2 + list_places(factors) + list_places(bounds) + list_places(values)
+}
+
+fn table_at(table: &Table, place: usize) -> Vec<Table> {
+    match place {
+        0 => return shorter_tables(table),
+        1 => {
+            let earlier = smaller_number(table.h)
+                .into_iter()
+                .map(|h| Table { h, ..table.clone() });
+            let later = smaller_number(table.f)
+                .into_iter()
+                .map(|f| Table { f, ..table.clone() });
+            return earlier.chain(later).collect();
+        }
+        _ => {}
+    }
+    type List = fn(&mut Table) -> &mut Vec<i64>;
+    let lists: [List; 3] = [
+        |table| &mut table.factors,
+        |table| &mut table.bounds,
+        |table| &mut table.values,
+    ];
+    let mut place = place - 2;
+    for list in lists {
+        let own = list(&mut table.clone()).clone();
+        if let Some(rest) = place.checked_sub(list_places(&own)) {
+            place = rest;
+            continue;
+        }
+        let with = |smaller: Vec<i64>| {
+            let mut changed = table.clone();
+            *list(&mut changed) = smaller;
+            changed
+        };
+        return list_at(&own, place).into_iter().map(with).collect();
+    }
+    vec![]
+}
+
+/// Tables with a label or a month less, still whole.
+fn shorter_tables(table: &Table) -> Vec<Table> {
+    let spanned = (0..=60).contains(&table.h) && (0..=600).contains(&table.f);
+    let months = if spanned { table.months() } else { 0 };
+    let whole = spanned
+        && table.values.len() == months * table.bounds.len()
+        && table.factors.len() as i64 == table.f + 1;
     let mut found = vec![];
-    let months = (i128::from(table.h) + i128::from(table.f) + 1).clamp(0, 700) as usize;
-    let whole = months > 0 && table.values.len() == months * table.bounds.len();
-    // One label less.
-    if whole && !table.bounds.is_empty() {
+    if !whole {
+        return found;
+    }
+    if !table.bounds.is_empty() {
         let mut changed = table.clone();
         changed.bounds.pop();
         changed.values.truncate(months * changed.bounds.len());
         found.push(changed);
     }
-    // Half of the months behind, one month less behind, one month less before.
     let mut shorter = |h: i64, f: i64| {
-        if !whole || h < 0 || f < 0 || table.factors.len() as i64 != table.f + 1 {
-            return;
-        }
         let skip = (table.h - h) as usize;
         let keep = (h + f + 1) as usize;
         let mut changed = table.clone();
@@ -279,49 +459,29 @@ fn smaller_tables(table: &Table) -> Vec<Table> {
         shorter(0, table.f);
         shorter(table.h - 1, table.f);
     }
-    for h in smaller_number(table.h) {
-        found.push(Table { h, ..table.clone() });
-    }
-    for f in smaller_number(table.f) {
-        found.push(Table { f, ..table.clone() });
-    }
-    for factors in smaller_lists(&table.factors) {
-        found.push(Table {
-            factors,
-            ..table.clone()
-        });
-    }
-    for bounds in smaller_lists(&table.bounds) {
-        found.push(Table {
-            bounds,
-            ..table.clone()
-        });
-    }
-    for values in smaller_lists(&table.values) {
-        found.push(Table {
-            values,
-            ..table.clone()
-        });
-    }
     found
 }
 
-/// A list with one number less, or with smaller numbers.
-fn smaller_lists(list: &[i64]) -> Vec<Vec<i64>> {
-    let mut found = vec![];
-    if list.is_empty() {
-        return found;
-    }
-    found.push(list[..list.len() - 1].to_vec());
-    found.push(vec![0; list.len()]);
-    if list.len() <= 40 {
-        for (at, number) in list.iter().enumerate() {
-            for smaller in smaller_number(*number) {
-                let mut changed = list.to_vec();
-                changed[at] = smaller;
-                found.push(changed);
-            }
-        }
-    }
-    found
+/// The places of a list: the whole, then its first numbers.
+fn list_places(list: &[i64]) -> usize {
+    1 + list.len().min(80)
+}
+
+fn list_at(list: &[i64], place: usize) -> Vec<Vec<i64>> {
+    let Some(at) = place.checked_sub(1) else {
+        return match list.len() {
+            0 => vec![],
+            len => vec![
+                list[..len / 2].to_vec(),
+                list[..len - 1].to_vec(),
+                vec![0; len],
+            ],
+        };
+    };
+    let with = |number| {
+        let mut changed = list.to_vec();
+        changed[at] = number;
+        changed
+    };
+    smaller_number(list[at]).into_iter().map(with).collect()
 }

@@ -1,30 +1,6 @@
-//! Texts as trees of letters, without kinds: enough to cut them smaller.
+//! Texts as trees of letters, read whatever is wrong with them: enough to cut them smaller.
 
-/// A node: its letter, its fields, its children.
-#[derive(Clone, Debug, PartialEq, Eq)]
-pub struct Node {
-    pub letter: u8,
-    pub fields: Vec<Vec<u8>>,
-    pub children: Vec<Node>,
-}
-
-/// How many fields and children stand behind a letter.
-fn shape(letter: u8) -> Option<(usize, usize)> {
-    Some(match letter {
-        b'Z' => (0, 0),
-        b'T' | b'O' => (2, 0),
-        b'F' | b'H' => (3, 0),
-        b'N' => (1, 0),
-        b'S' | b'B' | b'A' | b'U' | b'K' | b'G' | b'E' | b'Y' | b'V' => (0, 2),
-        b'L' | b'Q' => (1, 1),
-        b'I' => (0, 3),
-        b'W' => (1, 3),
-        b'R' => (0, 1),
-        _ => return None,
-    })
-}
-
-/// What may stand in a node's place.
+/// What may stand in a place.
 #[derive(Clone, Copy, Debug, PartialEq, Eq)]
 pub enum Place {
     Tree,
@@ -32,52 +8,92 @@ pub enum Place {
     Test,
 }
 
-impl Node {
-    /// The whole text as a tree, if it has the form of one.
-    pub fn read(text: &[u8]) -> Option<Node> {
-        let mut fields = text.split(|byte| *byte == b',');
-        let node = Node::next(&mut fields, 0)?;
-        fields.next().is_none().then_some(node)
+/// A node: the place it stands in, its letter (or what stands for it), its fields, its children.
+/// Where the text ends early, fields and children are missing.
+#[derive(Clone, Debug, PartialEq, Eq)]
+pub struct Node {
+    pub place: Place,
+    pub letter: Vec<u8>,
+    pub fields: Vec<Vec<u8>>,
+    pub children: Vec<Node>,
+}
+
+/// How many fields stand behind a letter, and in which places its children stand.
+fn shape(letter: &[u8]) -> (usize, &'static [Place]) {
+    use Place::*;
+    match letter {
+        b"T" | b"O" => (2, &[]),
+        b"F" | b"H" => (3, &[]),
+        b"N" => (1, &[]),
+        b"S" => (0, &[Amount, Tree]),
+        b"L" => (1, &[Tree]),
+        b"B" => (0, &[Tree, Tree]),
+        b"W" => (1, &[Test, Tree, Tree]),
+        b"A" | b"U" | b"K" | b"G" | b"E" => (0, &[Amount, Amount]),
+        b"Q" => (1, &[Amount]),
+        b"I" => (0, &[Test, Amount, Amount]),
+        b"Y" | b"V" => (0, &[Test, Test]),
+        b"R" => (0, &[Test]),
+        _ => (0, &[]),
+    }
+}
+
+/// Deeper than this no node is followed.
+const DEPTH: usize = 200;
+
+/// A text: its tree and what is left over behind it.
+#[derive(Clone, Debug, PartialEq, Eq)]
+pub struct Text {
+    pub tree: Node,
+    pub rest: Vec<Vec<u8>>,
+}
+
+impl Text {
+    pub fn read(text: &[u8]) -> Text {
+        let mut fields = text.split(|byte| *byte == b',').map(<[u8]>::to_vec);
+        let tree = Node::next(&mut fields, Place::Tree, 1).expect("a text has a first field");
+        Text {
+            tree,
+            rest: fields.collect(),
+        }
     }
 
-    fn next<'a>(fields: &mut impl Iterator<Item = &'a [u8]>, depth: usize) -> Option<Node> {
-        let [letter] = fields.next()? else {
-            return None;
+    pub fn bytes(&self) -> Vec<u8> {
+        let mut fields = vec![];
+        self.tree.put(&mut fields);
+        fields.extend(self.rest.iter().cloned());
+        fields.join(&b',')
+    }
+}
+
+impl Node {
+    fn next(
+        fields: &mut impl Iterator<Item = Vec<u8>>,
+        place: Place,
+        depth: usize,
+    ) -> Option<Node> {
+        let letter = fields.next()?;
+        let (own, places) = if depth > DEPTH {
+            (0, &[][..])
+        } else {
+            shape(&letter)
         };
-        let (own, children) = shape(*letter)?;
-        if depth > 200 {
-            return None;
-        }
         Some(Node {
-            letter: *letter,
-            fields: (0..own)
-                .map(|_| fields.next().map(<[u8]>::to_vec))
-                .collect::<Option<_>>()?,
-            children: (0..children)
-                .map(|_| Node::next(fields, depth + 1))
-                .collect::<Option<_>>()?,
+            place,
+            fields: (0..own).map_while(|_| fields.next()).collect(),
+            children: places
+                .iter()
+                .map_while(|place| Node::next(fields, *place, depth + 1))
+                .collect(),
+            letter,
         })
     }
 
-    pub fn text(&self) -> Vec<u8> {
-        let mut fields = vec![];
-        self.put(&mut fields);
-        fields.join(&b',')
-    }
-
     fn put(&self, fields: &mut Vec<Vec<u8>>) {
-        fields.push(vec![self.letter]);
+        fields.push(self.letter.clone());
         fields.extend(self.fields.iter().cloned());
         for child in &self.children {
             child.put(fields);
-        }
-    }
-
-    pub fn place(&self) -> Place {
-        match self.letter {
-            b'N' | b'O' | b'A' | b'U' | b'K' | b'Q' | b'I' => Place::Amount,
-            b'G' | b'E' | b'Y' | b'V' | b'R' => Place::Test,
-            _ => Place::Tree,
         }
     }
 
@@ -87,43 +103,69 @@ impl Node {
 
     /// The least node that may stand in a place.
     fn least(place: Place) -> Node {
-        let text: &[u8] = match place {
-            Place::Tree => b"Z",
-            Place::Amount => b"N,0",
-            Place::Test => b"E,N,0,N,0",
+        let node = |letter: &[u8], fields: &[&[u8]], children: Vec<Node>| Node {
+            place,
+            letter: letter.to_vec(),
+            fields: fields.iter().map(|field| field.to_vec()).collect(),
+            children,
         };
-        Node::read(text).expect("a tree")
-    }
-
-    /// Trees with one place made smaller, the greatest cuts first.
-    pub fn smaller(&self) -> Vec<Node> {
-        let mut found = vec![];
-        let place = self.place();
-        if *self != Node::least(place) {
-            found.push(Node::least(place));
-        }
-        self.of_place(place, &mut found);
-        for (at, child) in self.children.iter().enumerate() {
-            for smaller in child.smaller() {
-                let mut changed = self.clone();
-                changed.children[at] = smaller;
-                found.push(changed);
+        match place {
+            Place::Tree => node(b"Z", &[], vec![]),
+            Place::Amount => node(b"N", &[b"0"], vec![]),
+            Place::Test => {
+                let zero = Node::least(Place::Amount);
+                node(b"E", &[], vec![zero.clone(), zero])
             }
         }
-        for (at, field) in self.fields.iter().enumerate() {
+    }
+
+    /// The trees in which the `at`th node (the root is 0) is made smaller, the greatest cuts first.
+    pub fn smaller_at(&self, at: usize) -> Vec<Node> {
+        let mut left = at;
+        let Some(node) = self.nth(&mut left) else {
+            return vec![];
+        };
+        let mut found = vec![Node::least(node.place)];
+        node.of_place(node.place, &mut found);
+        for (at, field) in node.fields.iter().enumerate() {
             for smaller in smaller_field(field) {
-                let mut changed = self.clone();
+                let mut changed = node.clone();
                 changed.fields[at] = smaller;
                 found.push(changed);
             }
         }
         found
+            .into_iter()
+            .map(|smaller| {
+                let mut tree = self.clone();
+                *tree.nth_mut(&mut { at }).expect("the same tree") = smaller;
+                tree
+            })
+            .collect()
+    }
+
+    fn nth(&self, left: &mut usize) -> Option<&Node> {
+        if *left == 0 {
+            return Some(self);
+        }
+        *left -= 1;
+        self.children.iter().find_map(|child| child.nth(left))
+    }
+
+    fn nth_mut(&mut self, left: &mut usize) -> Option<&mut Node> {
+        if *left == 0 {
+            return Some(self);
+        }
+        *left -= 1;
+        self.children
+            .iter_mut()
+            .find_map(|child| child.nth_mut(left))
     }
 
     /// The nearest nodes beneath that may stand in this node's place.
     fn of_place(&self, place: Place, found: &mut Vec<Node>) {
         for child in &self.children {
-            if child.place() == place {
+            if child.place == place {
                 found.push(child.clone());
             } else {
                 child.of_place(place, found);
@@ -168,4 +210,31 @@ pub fn smaller_number(number: i64) -> Vec<i64> {
     found.retain(|smaller| *smaller != number);
     found.dedup();
     found
+}
+
+#[cfg(test)]
+mod tests {
+    use super::*;
+
+    #[test]
+    fn every_text_is_read_and_printed_back() {
+        for text in [
+            "",
+            ",",
+            "Z",
+            "Z,",
+            "B,L,1,S,N,5000,T,1,2,W,P0,G,N,100,O,0,0,S,U,O,0,0,N,100,T,2,1,Z",
+            "B,L,1,S,N,5000,T,1,2,W,P0,G,N,100,O",
+            "S,Z,T,,,7,B,x,\n",
+            "F,12+P0+P1,1,2,H",
+        ] {
+            let read = Text::read(text.as_bytes());
+            assert_eq!(read.bytes(), text.as_bytes());
+            for at in 0..read.tree.nodes() {
+                assert!(!read.tree.smaller_at(at).is_empty());
+            }
+        }
+        let deep = "L,0,".repeat(5_000);
+        assert_eq!(Text::read(deep.as_bytes()).bytes(), deep.as_bytes());
+    }
 }

@@ -3,7 +3,7 @@
 mod walk;
 
 use crate::calls::{Call, Kind};
-use crate::tree::Node;
+use crate::tree::{Node, Text};
 use interpreter::amounts::World;
 use interpreter::calls::{Answer, Room};
 use interpreter::payoffs::Valuation;
@@ -82,7 +82,7 @@ impl Coverage {
             },
             _ => call.text.clone(),
         };
-        let tree = Node::read(&text).expect("an accepted text is a tree");
+        let tree = Text::read(&text).tree;
         for letter in letters(&tree) {
             self.count(&format!("{name}: letter {letter}"));
         }
@@ -246,7 +246,7 @@ fn refusals(kind: Kind) -> Vec<u8> {
 }
 
 fn letters(tree: &Node) -> std::collections::BTreeSet<char> {
-    let mut all = std::collections::BTreeSet::from([char::from(tree.letter)]);
+    let mut all = std::collections::BTreeSet::from([char::from(tree.letter[0])]);
     for child in &tree.children {
         all.extend(letters(child));
     }

@@ -14,6 +14,9 @@ impl When for Month {
         }
         let least = (-scene.table.h - roots.earliest).max(-60);
         let most = scene.table.f - roots.latest;
+        if scene.wild > 0 && random.chance(3) {
+            return Some(beyond(random, least, most));
+        }
         (least <= most).then(|| month(random, scene, least, most))
     }
 }
@@ -34,6 +37,12 @@ fn any_month(random: &mut Random) -> Month {
     let mut settings: Vec<usize> = (0..settings).map(|_| random.below(8)).collect();
     settings.sort_unstable();
     Month { number, settings }
+}
+
+/// A month just before `least` or just behind `most`.
+fn beyond(random: &mut Random, least: i64, most: i64) -> Month {
+    let month = *random.pick(&[least - 1, most + 1]);
+    Month::of(month.clamp(-60, 19_200))
 }
 
 /// A month from `least` to `most`, sometimes in part as settings.
@@ -145,6 +154,8 @@ fn leaf(random: &mut Random, scene: &Scene, waited: Roots, limit: i64) -> Payoff
     }
     let month = if scene.is_wild(random) {
         any_month(random)
+    } else if scene.wild > 0 && random.chance(6) {
+        beyond(random, least, most)
     } else {
         month(random, scene, least, most)
     };

@@ -14,12 +14,20 @@ impl When for Offset {
         roots: Roots,
         latest: Option<i64>,
     ) -> Option<Offset> {
-        if scene.is_wild(random) {
-            return Some(Offset(*random.pick(&[-60, -1, 0, 1, 600, 17])));
-        }
+        let wild = scene.is_wild(random);
+        let known = match latest {
+            Some(latest) if scene.late => latest + random.range(0, 2),
+            latest => latest.unwrap_or(600),
+        };
         let least = (-scene.table.h - roots.earliest).max(-60);
-        let known = latest.filter(|_| !scene.late).unwrap_or(600);
         let most = (scene.table.f - roots.latest).min(600).min(known);
+        if wild {
+            let beyond = [least - 1, most + 1].map(|offset| offset.clamp(-60, 600));
+            return Some(Offset(match random.below(2) {
+                0 => *random.pick(&beyond),
+                _ => *random.pick(&[-60, -1, 0, 1, 17, 600]),
+            }));
+        }
         if least > most {
             return None;
         }

@@ -35,9 +35,9 @@ impl Scene {
             days,
             today,
             numbers,
-            wild: random.weighted(&[(70, 0), (20, 4), (10, 25)]),
+            wild: random.weighted(&[(66, 0), (25, 4), (9, 25)]),
             bold: random.chance(8),
-            late: random.chance(6),
+            late: random.chance(8),
         }
     }
 
@@ -71,7 +71,7 @@ impl Scene {
 
     /// A number no further from zero than the limit (unless wild or bold).
     pub fn number(&self, random: &mut Random, limit: i64) -> i64 {
-        if self.bold && random.chance(40) {
+        if self.bold && random.chance(55) {
             let size = *random.pick(&[AMOUNT_LIMIT, AMOUNT_LIMIT / 2, 3_000_000, 3_000_001]);
             return *random.pick(&[-1, 1]) * size;
         }

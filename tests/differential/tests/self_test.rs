@@ -1,0 +1,85 @@
+//! The harness can fail: every version of the interpreter that is wrong on purpose is found, and the
+//! input that shows it is made small.
+
+mod wrong;
+
+use differential::calls::{Interpreter, Kind};
+use differential::harness::{report, Fault, Harness};
+use wrong::Wrong;
+
+/// Calls after which a wrong version has to be found.
+const CALLS: u64 = 60_000;
+
+/// Finds each of these, and shrinks what it finds to a text and table of a few fields.
+fn found(all: Vec<Wrong>) {
+    let mut missed = vec![];
+    for wrong in all {
+        let mut harness = Harness::new(&wrong, &Kind::ALL);
+        let Err(fault) = harness.run(CALLS, 1, |_, _| ()) else {
+            missed.push(format!("{}: not found", wrong.name));
+            continue;
+        };
+        let after = harness.compared;
+        let fault = harness.smallest(fault);
+        println!("{} (after {after} calls)\n{}", wrong.name, report(&fault));
+        let Fault::Call(difference) = fault else {
+            missed.push(format!("{}: found as a broken roll only", wrong.name));
+            continue;
+        };
+        // What only a text at its limits shows cannot be made small.
+        let at_limits = matches!(difference.expected.status, 1 | 3 | 4);
+        let call = difference.call;
+        let fields = call.text.split(|byte| matches!(byte, b',' | b'\n')).count();
+        let table = &call.table;
+        let numbers = table.factors.len() + table.bounds.len() + table.values.len();
+        let small = if call.kind == Kind::Sheet { 30 } else { 20 };
+        if !at_limits && (fields > small || numbers > 20 || call.days.len() > 9) {
+            missed.push(format!("{}: not made small", wrong.name));
+        }
+    }
+    assert!(missed.is_empty(), "{missed:#?}");
+}
+
+#[test]
+fn wrong_buffers_are_found() {
+    found(wrong::buffers::all());
+}
+
+#[test]
+fn wrong_texts_are_found() {
+    found(wrong::texts::all());
+}
+
+#[test]
+fn wrong_rules_are_found() {
+    found(wrong::rules::all());
+}
+
+#[test]
+fn wrong_months_are_found() {
+    found(wrong::months::all());
+}
+
+#[test]
+fn wrong_values_are_found() {
+    found(wrong::values::all());
+}
+
+/// What is right is not found wrong.
+#[test]
+fn the_interpreter_is_like_itself() {
+    let mut harness = Harness::new(&Interpreter, &Kind::ALL);
+    if let Err(fault) = harness.run(20_000, 7, |_, _| ()) {
+        panic!("{}", report(&harness.smallest(fault)));
+    }
+}
+
+/// Each list of calls alone, as on the command line.
+#[test]
+fn each_call_can_be_compared_alone() {
+    for kind in Kind::ALL {
+        let mut harness = Harness::new(&Interpreter, &[kind]);
+        assert!(harness.run(500, 3, |_, _| ()).is_ok());
+        assert!(harness.compared >= 500);
+    }
+}
