@@ -47,9 +47,16 @@ fn on_plan<C: Calls>(
 ) -> Result<(), Fault> {
     let scene = Scene::random(random);
     let budget = Budget::random(random);
+    if random.chance(3) {
+        let text = edges::corner(random);
+        let mut call = call_in(random, &scene, kind, text);
+        lend(random, &mut call);
+        return harness.compare(&call).map(|_| ());
+    }
     let tree = match random.below(100) {
         0..=4 => edges::plan(random),
         5..=8 => edges::timing(random, &scene),
+        9..=11 => edges::delays(random, &scene),
         _ => plan(random, &scene, budget),
     };
     let mut call = call_in(random, &scene, kind, print::plan(&tree));
@@ -104,7 +111,10 @@ fn on_payoff<C: Calls>(
     } else {
         payoffs::payoff(random, &scene, budget)
     };
-    let text = print::payoff(&tree);
+    let text = match random.chance(3) {
+        true => edges::corner(random),
+        false => print::payoff(&tree),
+    };
     let mut call = call_in(random, &scene, kind, text);
     spoil(random, &mut call, PAYOFF_BYTES);
     lend(random, &mut call);
@@ -128,13 +138,15 @@ fn call_in(random: &mut Random, scene: &Scene, kind: Kind, text: Vec<u8>) -> Cal
 
 /// Sometimes damages one part of a call or more.
 fn spoil(random: &mut Random, call: &mut Call, limit: usize) {
-    if random.chance(18) {
+    // Sometimes much is wrong at once, so that the order of refusals shows.
+    let percent = if random.chance(6) { 40 } else { 4 };
+    if random.chance(14 + percent) {
         damage::text(random, &mut call.text);
     }
     if random.below(1000) < 12 {
         damage::length(random, &mut call.text, limit);
     }
-    let spoilt = |random: &mut Random, takes: bool| takes && random.chance(4);
+    let spoilt = |random: &mut Random, takes: bool| takes && random.chance(percent);
     if spoilt(random, call.kind.takes_table()) {
         damage::table(random, &mut call.table);
     }
@@ -218,19 +230,23 @@ fn on_sheet<C: Calls>(random: &mut Random, harness: &mut Harness<C>) -> Result<(
     let budget = Budget::random(random);
     let mut text = print::plan(&plan(random, &scene, budget));
     let mut asked = pair(random);
-    if random.chance(12) {
+    let percent = if random.chance(8) { 40 } else { 4 };
+    if random.chance(8 + percent) {
         damage::text(random, &mut text);
+    }
+    if random.chance(1) {
+        text = edges::corner(random);
     }
     if random.chance(1) {
         damage::length(random, &mut text, PLAN_BYTES);
     }
-    if random.chance(5) {
+    if random.chance(percent) {
         damage::table(random, &mut scene.table);
     }
-    if random.chance(5) {
+    if random.chance(percent) {
         damage::days(random, &mut scene.days);
     }
-    if random.chance(4) {
+    if random.chance(percent) {
         asked.0 = damage::party(random);
     }
     let lines = sheets::lines(&text, &scene.days, &scene.table, asked);

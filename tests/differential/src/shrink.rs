@@ -8,15 +8,16 @@ use crate::calls::{Call, Kind};
 use crate::generate::sheets;
 use crate::roll::Roll;
 use crate::tree::{smaller_field, smaller_number, Text};
+use interpreter::calls::Room;
 use interpreter::sheet::{read_sheet, Sheet};
 use interpreter::Table;
 
-/// More tries than this are not made.
-const TRIES: usize = 60_000;
+/// The work that is done at most: one unit a try, more for a long text.
+const WORK: usize = 100_000;
 
 /// Makes a call smaller as long as it fails.
 pub fn smallest_call(call: Call, fails: &dyn Fn(&Call) -> bool) -> Call {
-    smallest(call, &call_at, &weight, fails)
+    smallest(call, &fitting_call_at, &weight, fails)
 }
 
 /// Makes a roll smaller as long as it fails.
@@ -34,19 +35,24 @@ fn smallest<T>(
     weigh: &dyn Fn(&T) -> (usize, u64),
     fails: &dyn Fn(&T) -> bool,
 ) -> T {
-    let mut tries = 0;
+    let mut work = 0;
     loop {
         let before = weigh(&input);
         let mut place = 0;
         while let Some(smaller) = at(&input, place) {
             let weight = weigh(&input);
+            let effort = 1 + weight.0 / 50;
+            work += effort;
             let next = smaller.into_iter().find(|next| {
-                tries += 1;
-                tries <= TRIES && weigh(next) < weight && fails(next)
+                work += effort;
+                weigh(next) < weight && fails(next)
             });
             match next {
                 Some(next) => input = next,
                 None => place += 1,
+            }
+            if work > WORK {
+                return input;
             }
         }
         if weigh(&input) == before {
@@ -99,6 +105,37 @@ fn roll_at(roll: &Roll, place: usize) -> Option<Vec<Roll>> {
     let mut changed = roll.clone();
     changed.events.remove(roll.events.len() - 1 - place);
     Some(vec![changed])
+}
+
+/// The places of a call. Where its `out` has the exact size of the answer, or one byte more or less,
+/// the smaller calls are tried with that too.
+fn fitting_call_at(call: &Call, place: usize) -> Option<Vec<Call>> {
+    let smaller = call_at(call, place)?;
+    let spare = match answer_bytes(call) {
+        Some(bytes) if call.out.abs_diff(bytes) <= 1 => call.out as i64 - bytes as i64,
+        _ => return Some(smaller),
+    };
+    let fitted = smaller.iter().filter_map(|next| {
+        let out = answer_bytes(next)? as i64 + spare;
+        Some(Call {
+            out: usize::try_from(out).ok()?,
+            ..next.clone()
+        })
+    });
+    Some(smaller.iter().cloned().chain(fitted).collect())
+}
+
+/// How many bytes the call writes, given room enough.
+fn answer_bytes(call: &Call) -> Option<usize> {
+    let enough = Room {
+        out: usize::MAX,
+        answer: usize::MAX,
+    };
+    if !call.kind.writes() {
+        return None;
+    }
+    let answer = call.foretold_with(enough).ok()?;
+    Some(answer.bytes.len())
 }
 
 /// The places of a call: those of text and table together, of its text, its table, its settings and

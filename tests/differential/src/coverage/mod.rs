@@ -3,7 +3,7 @@
 mod walk;
 
 use crate::calls::{Call, Kind};
-use crate::tree::{Node, Text};
+use crate::tree::{Node, Place, Text};
 use interpreter::amounts::World;
 use interpreter::calls::{Answer, Room};
 use interpreter::payoffs::Valuation;
@@ -36,9 +36,38 @@ impl Coverage {
             Err(refusal) => {
                 self.count(&format!("{name}: refused {}", refusal.number()));
                 self.count(&format!("cause: {refusal:?}"));
+                self.record_corner(call, *refusal);
             }
         }
         self.record_room(call);
+    }
+
+    /// What stands in the place of the 513th node, or at depth 33, or both.
+    fn record_corner(&mut self, call: &Call, refusal: Refusal) {
+        if call.kind == Kind::Sheet || !(2..=5).contains(&refusal.number()) {
+            return;
+        }
+        let letters = if call.kind.reads_payoff() {
+            PAYOFF_LETTERS
+        } else {
+            PLAN_LETTERS
+        };
+        let known = |letter: &[u8]| letter.len() == 1 && letters.as_bytes().contains(&letter[0]);
+        let tree = Text::read(&call.text).tree;
+        let (nodes, depth) = refused_at(&tree, &|node, nodes, depth| match refusal {
+            Refusal::UnknownLetter => !known(&node.letter),
+            Refusal::WrongKind => node.place != place_of(&node.letter),
+            Refusal::TooManyNodes => nodes > read::NODES,
+            Refusal::TooDeep => depth > read::DEPTH,
+            _ => false,
+        });
+        let place = match (nodes == read::NODES + 1, depth == read::DEPTH + 1) {
+            (true, true) => "as 513th node at depth 33",
+            (true, false) => "as 513th node",
+            (false, true) => "at depth 33",
+            (false, false) => return,
+        };
+        self.count(&format!("corner: refused {} {place}", refusal.number()));
     }
 
     /// The sizes of the lent buffers, where these alone decide.
@@ -206,6 +235,20 @@ impl Coverage {
                 all.push(format!("cause: {refusal:?}"));
             }
         }
+        if kinds == Kind::ALL {
+            for place in ["as 513th node at depth 33", "as 513th node", "at depth 33"] {
+                for refusal in [2, 3, 4, 5] {
+                    // Depth 33 is no fault of the 513th node elsewhere, and the other way round.
+                    let other = match place {
+                        "as 513th node at depth 33" | "as 513th node" => 4,
+                        _ => 3,
+                    };
+                    if refusal != other {
+                        all.push(format!("corner: refused {refusal} {place}"));
+                    }
+                }
+            }
+        }
         if kinds.contains(&Kind::Step) {
             for what in ["a month", "up to month f", "refused 12", "refused 13"] {
                 all.push(format!("roll: {what}"));
@@ -242,6 +285,37 @@ fn refusals(kind: Kind) -> Vec<u8> {
         Kind::Compile | Kind::Cut => vec![1, 2, 3, 4, 5, 13],
         Kind::Evaluate => vec![1, 2, 3, 4, 5, 8, 9, 11, 12, 13, 14],
         Kind::Sheet => vec![13],
+    }
+}
+
+/// How many nodes and levels the reader has seen at the first faulty node.
+fn refused_at(tree: &Node, faulty: &dyn Fn(&Node, usize, usize) -> bool) -> (usize, usize) {
+    fn walk(
+        node: &Node,
+        depth: usize,
+        nodes: &mut usize,
+        faulty: &dyn Fn(&Node, usize, usize) -> bool,
+    ) -> Option<usize> {
+        *nodes += 1;
+        if faulty(node, *nodes, depth) {
+            return Some(depth);
+        }
+        let mut children = node.children.iter();
+        children.find_map(|child| walk(child, depth + 1, nodes, faulty))
+    }
+    let mut nodes = 0;
+    match walk(tree, 1, &mut nodes, faulty) {
+        Some(depth) => (nodes, depth),
+        None => (0, 0),
+    }
+}
+
+/// The place that a letter belongs to.
+fn place_of(letter: &[u8]) -> Place {
+    match letter {
+        b"N" | b"O" | b"A" | b"U" | b"K" | b"Q" | b"I" => Place::Amount,
+        b"G" | b"E" | b"Y" | b"V" | b"R" => Place::Test,
+        _ => Place::Tree,
     }
 }
 

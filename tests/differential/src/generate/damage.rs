@@ -83,6 +83,9 @@ fn letter(random: &mut Random) -> Vec<u8> {
 
 /// A field in a number's place: a little off, out of range or malformed.
 fn number(random: &mut Random, old: &[u8]) -> Vec<u8> {
+    if old.contains(&b'+') && random.chance(50) {
+        return settings(random, old);
+    }
     let with = |prefix: &[u8]| [prefix, old].concat();
     let behind = |suffix: &[u8]| [old, suffix].concat();
     match random.below(14) {
@@ -146,6 +149,24 @@ fn number(random: &mut Random, old: &[u8]) -> Vec<u8> {
             .into_bytes(),
         _ => random.range(-2, 9).to_string().into_bytes(),
     }
+}
+
+/// A month with its settings out of order, or too many, or without its number.
+fn settings(random: &mut Random, old: &[u8]) -> Vec<u8> {
+    let mut parts: Vec<&[u8]> = old.split(|byte| *byte == b'+').collect();
+    match random.below(5) {
+        0 | 1 => parts[1..].reverse(),
+        2 => {
+            while parts.len() < 33 {
+                parts.push(parts[parts.len() - 1]);
+            }
+        }
+        3 => {
+            parts.remove(0);
+        }
+        _ => parts.push(b"P0"),
+    }
+    parts.join(&b'+')
 }
 
 /// Makes a text as long as its limit or longer.

@@ -1,4 +1,5 @@
-//! Small plans at the limit of magnitudes, or of what is known in time, or one beyond it.
+//! Plans at one of the limits or one beyond it: of magnitudes, of what is known in time, of nodes and
+//! depth, of the months that delays sum up to.
 
 use super::scenes::Scene;
 use crate::random::Random;
@@ -86,6 +87,90 @@ pub fn timing(random: &mut Random, scene: &Scene) -> Plan {
     times(index, plan)
 }
 
+/// A text, for plans and payoffs alike, that comes to 512 nodes and to depth 32 at once or nearly so,
+/// and has something good or bad in the next place.
+pub fn corner(random: &mut Random) -> Vec<u8> {
+    // Each level is a `B` with a `Z` beside it, so that the next place is one deeper; in the last
+    // the `Z` comes behind.
+    let levels = *random.pick(&[29, 30, 31, 31, 31, 32]);
+    let before = *random.pick(&[509, 510, 511, 512, 512, 512]);
+    let beside = before - 2 * levels;
+    let tail = random.pick(&[
+        "Z",
+        "B,Z,Z",
+        "S,N,0,Z",
+        "N,1",
+        "G,N,1,N,1",
+        "J",
+        "",
+        "T,0,1",
+        "L,601,Z",
+        "L,0,Z",
+        "F,0,1,2",
+        "F,x,1,2",
+        "H,0,1,10",
+        "Z,Z",
+        "W,0,E,N,0,N,0,Z,Z",
+        "S,Z,Z",
+        "ZZ",
+        "W,x,Z",
+    ]);
+    let spine = "B,Z,".repeat(levels - 1);
+    let mut text = format!("B,{},{spine}B,{tail},Z", full(beside));
+    match random.below(8) {
+        // The last `Z` is missing, or all that the last `B` should have.
+        0 => text.truncate(text.len() - 2),
+        1 => text.truncate(text.len() - tail.len() - 3),
+        _ => {}
+    }
+    text.into_bytes()
+}
+
+/// A text of so many nodes, as flat as can be.
+fn full(nodes: usize) -> String {
+    match nodes {
+        1 => "Z".into(),
+        4 => "S,Q,1,N,0,Z".into(),
+        more => {
+            let left = match (more - 1) / 2 {
+                2 => 1,
+                half => half,
+            };
+            format!("B,{},{}", full(left), full(more - 1 - left))
+        }
+    }
+}
+
+/// A plan under many delays, some of them open.
+pub fn delays(random: &mut Random, scene: &Scene) -> Plan {
+    let offset = random.range(-3, 3);
+    let index = Amount::Index {
+        label: 0,
+        at: Offset(*random.pick(&[offset, -60, 600])),
+    };
+    let leaf = transfer(random);
+    let mut plan = match random.below(3) {
+        0 => leaf,
+        1 => times(index, leaf),
+        _ => {
+            let d = Delay::Setting(random.below(8));
+            let test = Test::Less(index, number(1));
+            Plan::Wait(d, test, Box::new(leaf), Box::new(Plan::Nothing))
+        }
+    };
+    let open = scene.days.len().max(1);
+    let longest = *random.pick(&[0, 0, 1, 600]);
+    for _ in 0..random.range(20, 31) {
+        let delay = match random.below(3) {
+            0 => Delay::Months(random.range(0, longest)),
+            1 => Delay::Setting(random.below(8)),
+            _ => Delay::Setting(random.below(open)),
+        };
+        plan = Plan::Later(delay, Box::new(plan));
+    }
+    plan
+}
+
 fn number(n: i64) -> Number {
     Amount::Number(n)
 }
@@ -108,4 +193,20 @@ fn transfer(random: &mut Random) -> Plan {
     }
     let (from, to) = *random.pick(&[(1, 2), (2, 1)]);
     Plan::Transfer { from, to }
+}
+
+#[cfg(test)]
+mod tests {
+    use super::*;
+    use crate::tree::Text;
+
+    #[test]
+    fn a_full_text_has_so_many_nodes() {
+        for nodes in 3..=512 {
+            let text = full(nodes);
+            assert_eq!(Text::read(text.as_bytes()).tree.nodes(), nodes);
+            assert!(interpreter::read::plan(text.as_bytes()).is_ok());
+            assert!(interpreter::read::payoff(text.as_bytes()).is_ok());
+        }
+    }
 }

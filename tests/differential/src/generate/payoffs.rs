@@ -53,6 +53,7 @@ fn month(random: &mut Random, scene: &Scene, least: i64, most: i64) -> Month {
         _ => random.range(least, most),
     };
     let count = match random.below(40) {
+        _ if scene.long_months => random.range(28, 31) as usize,
         0 => 31,
         1..=12 => random.below(4),
         _ => 0,

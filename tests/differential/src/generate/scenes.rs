@@ -18,13 +18,22 @@ pub struct Scene {
     pub bold: bool,
     /// Whether amounts may be known too late.
     pub late: bool,
+    /// Whether the months of payoffs have as many settings as they can.
+    pub long_months: bool,
 }
 
 impl Scene {
     pub fn random(random: &mut Random) -> Scene {
         let numbers = pool(random);
         let table = table(random, &numbers);
-        let days = days(random, table.f);
+        let long_months = random.chance(3);
+        let days = if long_months {
+            (0..random.range(1, 8))
+                .map(|_| random.range(0, 2))
+                .collect()
+        } else {
+            days(random, table.f)
+        };
         let today = match random.below(4) {
             0 => random.range(0, table.f / 2),
             1 if random.chance(20) => table.f,
@@ -38,6 +47,7 @@ impl Scene {
             wild: random.weighted(&[(66, 0), (25, 4), (9, 25)]),
             bold: random.chance(8),
             late: random.chance(8),
+            long_months,
         }
     }
 

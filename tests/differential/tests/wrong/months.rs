@@ -61,6 +61,26 @@ pub fn all() -> Vec<Wrong> {
                 plan => stepped(&plan, world),
             })
         }),
+        answers("steps only the first of both", |call| {
+            on_step(call, |plan, world| {
+                stepping(&filled(plan, world.days), world, Mistake::OneOfBoth)
+            })
+        }),
+        answers("writes the first plan of a hit unstepped", |call| {
+            on_step(call, |plan, world| {
+                stepping(&filled(plan, world.days), world, Mistake::Unstepped)
+            })
+        }),
+        answers("moves no index in the test of a choice", |call| {
+            on_step(call, |plan, world| {
+                stepping(&filled(plan, world.days), world, Mistake::StillTests)
+            })
+        }),
+        answers("takes today's value for an index of the past", |call| {
+            on_step(call, |plan, world| {
+                stepping(&filled(plan, world.days), world, Mistake::TodaysValue)
+            })
+        }),
         answers("pays in the step what is due tomorrow", |call| {
             let mut told = right(call)?;
             if call.kind == Kind::Step && call.today < call.table.f {
@@ -116,6 +136,10 @@ enum Mistake {
     TowardsZero,
     LessOrEqual,
     SameParty,
+    OneOfBoth,
+    Unstepped,
+    StillTests,
+    TodaysValue,
 }
 
 /// A step that writes another plan.
@@ -146,13 +170,19 @@ fn stepping(plan: &Plan, world: World, mistake: Mistake) -> Plan {
             0 => stepping(plan, world, mistake),
             d => Plan::Later(Delay::Months(d - 1), plan.clone()),
         },
+        Plan::Both(one, other) if mistake == Mistake::OneOfBoth => {
+            Plan::Both(child(one), other.clone())
+        }
         Plan::Both(one, other) => Plan::Both(child(one), child(other)),
         Plan::Wait(delay, condition, first, second) => {
             let d = months_of(*delay, world.days);
             let missed = mistake == Mistake::LastHitMissed && d == 0;
             let more = i64::from(mistake == Mistake::OneMoreMonth);
             if test(condition, world) && !missed {
-                return stepping(first, world, mistake);
+                return match mistake {
+                    Mistake::Unstepped => (**first).clone(),
+                    _ => stepping(first, world, mistake),
+                };
             }
             if d + more == 0 {
                 return stepping(second, world, mistake);
@@ -174,7 +204,11 @@ fn moved(tree: &Amount<Offset>, world: World, mistake: Mistake) -> Amount<Offset
     let early = i64::from(mistake == Mistake::EarlyIndex);
     let child = |tree: &Amount<Offset>| Box::new(moved(tree, world, mistake));
     match tree {
-        Amount::Index { label, at } if at.0 <= early => Amount::Number(world.observe(*label, *at)),
+        Amount::Index { label, at } if at.0 <= early => {
+            let past = at.0 < 0 && mistake == Mistake::TodaysValue;
+            let at = if past { Offset(0) } else { *at };
+            Amount::Number(world.observe(*label, at))
+        }
         Amount::Index { label, at } => Amount::Index {
             label: *label,
             at: Offset(at.0 - 1),
@@ -183,7 +217,19 @@ fn moved(tree: &Amount<Offset>, world: World, mistake: Mistake) -> Amount<Offset
         Amount::Difference(one, other) => Amount::Difference(child(one), child(other)),
         Amount::Product(one, other) => Amount::Product(child(one), child(other)),
         Amount::Quotient(n, tree) => Amount::Quotient(*n, child(tree)),
-        other => other.clone(),
+        Amount::Choice(condition, one, other) if mistake == Mistake::StillTests => {
+            Amount::Choice(condition.clone(), child(one), child(other))
+        }
+        other => right_amount(other, world),
+    }
+}
+
+/// The amount as a right step leaves it.
+fn right_amount(tree: &Amount<Offset>, world: World) -> Amount<Offset> {
+    let plan = Plan::Scale(tree.clone(), Box::new(Plan::Nothing));
+    match stepped(&plan, world) {
+        Plan::Scale(amount, _) => amount,
+        _ => unreachable!("an S steps to an S"),
     }
 }
 

@@ -128,6 +128,69 @@ pub fn all() -> Vec<Wrong> {
                 told => told,
             }
         }),
+        answers("reads the test of a wait only in its first month", |call| {
+            let told = right(call);
+            let without = |plan| match plan {
+                Plan::Wait(d, _, one, other) => {
+                    let zero = || Amount::Number(0);
+                    Plan::Wait(d, Test::Equal(zero(), zero()), one, other)
+                }
+                other => other,
+            };
+            match (&told, call.kind) {
+                (Err(Refusal::ReadTooLate), Kind::Check) => changed(call, without),
+                _ => told,
+            }
+        }),
+        answers(
+            "starts the first plan only in the first month tried",
+            |call| {
+                let told = right(call);
+                let swapped = |plan| match plan {
+                    Plan::Wait(d, test, one, other) => {
+                        let never = Box::new(Plan::Nothing);
+                        Plan::Both(Box::new(Plan::Wait(d, test, never, other)), one)
+                    }
+                    other => other,
+                };
+                match (&told, call.kind) {
+                    (Err(Refusal::ReadTooLate), Kind::Check) => changed(call, swapped),
+                    _ => told,
+                }
+            },
+        ),
+        answers("takes the greater magnitude of both", |call| {
+            fn magnitude(plan: &Plan) -> i64 {
+                match plan {
+                    Plan::Transfer { .. } => 1,
+                    Plan::Both(one, other) => magnitude(one).max(magnitude(other)),
+                    _ => 0,
+                }
+            }
+            match accepted_plan(call, Kind::Check) {
+                Some((plan @ Plan::Both(..), mut answer)) if magnitude(&plan) > 0 => {
+                    answer.numbers[1] = answer.numbers[1].min(magnitude(&plan));
+                    Ok(answer)
+                }
+                _ => right(call),
+            }
+        }),
+        answers("accepts today beyond f", |call| match right(call) {
+            Err(Refusal::Today) if call.today == call.table.f + 1 => right(&Call {
+                today: call.table.f,
+                ..call.clone()
+            }),
+            told => told,
+        }),
+        answers(
+            "answers payments of months before today",
+            |call| match right(call) {
+                Err(Refusal::MonthAsked) if call.month < call.today => {
+                    super::of_number(0).ok_or(Refusal::MonthAsked)
+                }
+                told => told,
+            },
+        ),
         answers("does not miss an unset setting", |call| match right(call) {
             Err(Refusal::SettingUnset) => {
                 let mut days = call.days.clone();

@@ -2,6 +2,7 @@
 
 use super::{answers, right, Wrong};
 use differential::calls::{Call, Kind};
+use differential::tree::{Node, Text};
 use interpreter::calls::Answer;
 use interpreter::Refusal;
 
@@ -73,6 +74,157 @@ pub fn all() -> Vec<Wrong> {
                 }
             },
         ),
+        answers("reads a delay of 601", |call| {
+            retold(call, |field| match field {
+                "601" => "600".into(),
+                _ => field.into(),
+            })
+        }),
+        answers("reads P8", |call| {
+            retold(call, |field| match field {
+                "P8" => "P7".into(),
+                _ => field.into(),
+            })
+        }),
+        answers("reads a number one beyond its range", |call| {
+            retold(call, |field| match field {
+                "9000000000001" => "9000000000000".into(),
+                "-9000000000001" => "-9000000000000".into(),
+                "19201" => "19200".into(),
+                "-61" => "-60".into(),
+                _ => field.into(),
+            })
+        }),
+        answers("reads parties 0 and 10", |call| {
+            let mut call = call.clone();
+            let text = String::from_utf8_lossy(&call.text).into_owned();
+            if text.starts_with("T,0,") {
+                call.text = text.replacen("T,0,", "T,1,", 1).into_bytes();
+            }
+            call.p = match call.p {
+                0 => 1,
+                10 => 9,
+                p => p,
+            };
+            right(&call)
+        }),
+        answers("reads plans 33 deep", |call| match right(call) {
+            Err(Refusal::TooDeep) if call.text.starts_with(b"L,0,") => {
+                let text = call.text[4..].to_vec();
+                right(&Call {
+                    text,
+                    ..call.clone()
+                })
+            }
+            told => told,
+        }),
+        answers("takes 4 before 3", |call| match right(call) {
+            Err(Refusal::TooManyNodes) => {
+                // Where the 513th node is 33 deep, a shorter text ends in the same node.
+                let text = Text::read(&call.text);
+                match deep(&text.tree, 1, &mut 0) {
+                    true => Err(Refusal::TooDeep),
+                    false => Err(Refusal::TooManyNodes),
+                }
+            }
+            told => told,
+        }),
+        answers("takes 3 before a wrong kind", |call| match right(call) {
+            Err(Refusal::WrongKind) => {
+                let text = Text::read(&call.text);
+                match text.tree.nodes() > 512 && call.text.ends_with(b"N,1,Z") {
+                    true => Err(Refusal::TooManyNodes),
+                    false => Err(Refusal::WrongKind),
+                }
+            }
+            told => told,
+        }),
+        answers(
+            "takes a missing child for one too deep",
+            |call| match right(call) {
+                Err(Refusal::NodeMissing) if last_depth(&Text::read(&call.text).tree) == 32 => {
+                    Err(Refusal::TooDeep)
+                }
+                told => told,
+            },
+        ),
+        answers("takes a text as long as its limit for too long", |call| {
+            let limit = match call.kind {
+                Kind::Sheet => return right(call),
+                kind if kind.reads_payoff() => 53_760,
+                _ => 8_704,
+            };
+            match call.text.len() == limit {
+                true => Err(Refusal::TextTooLong),
+                false => right(call),
+            }
+        }),
+        answers(
+            "takes a text beyond its limit for malformed",
+            |call| match right(call) {
+                Err(Refusal::TextTooLong) => Err(Refusal::LeftoverBytes),
+                told => told,
+            },
+        ),
+        answers("takes a sheet beyond its limit for malformed", |call| {
+            on_sheet(call, |lines| match lines.as_slice() {
+                b"refused,1\n" => b"refused,2\n".to_vec(),
+                _ => lines,
+            })
+        }),
+        answers("prints a month too few", |call| {
+            on_sheet(call, |mut lines| {
+                if lines.starts_with(b"accepted") {
+                    lines.pop();
+                    while lines.last() != Some(&b'\n') {
+                        lines.pop();
+                    }
+                }
+                lines
+            })
+        }),
+        answers(
+            "takes a ninth index line for a fault of the sheet",
+            |call| {
+                let index = |line: &[u8]| line.starts_with(b"index,8,");
+                match call.text.split(|byte| *byte == b'\n').any(index) {
+                    true => on_sheet(call, |_| b"refused,2\n".to_vec()),
+                    false => right(call),
+                }
+            },
+        ),
+        answers("looks at a sheet's pair before its table", |call| {
+            let told = right(call)?;
+            let sheet = interpreter::sheet::read_sheet(&call.text);
+            match (call.kind, sheet) {
+                (Kind::Sheet, Ok(sheet))
+                    if told.bytes == b"refused,9\n" && !(1..=9).contains(&sheet.pair.0) =>
+                {
+                    Ok(super::of_bytes(b"refused,12\n".to_vec()))
+                }
+                _ => Ok(told),
+            }
+        }),
+        answers("drops the settings of an index in compiling", |call| {
+            let mut told = right(call)?;
+            if call.kind == Kind::Compile {
+                let text = String::from_utf8(told.bytes).expect("letters and digits");
+                told = super::of_bytes(text.replace("O,0,0+P0,", "O,0,0,").into_bytes());
+            }
+            Ok(told)
+        }),
+        answers("adds no offset to an index in compiling", |call| {
+            let mut told = right(call)?;
+            if call.kind == Kind::Compile {
+                let text = String::from_utf8(told.bytes).expect("letters and digits");
+                told = super::of_bytes(text.replace("O,0,-1,", "O,0,0,").into_bytes());
+            }
+            Ok(told)
+        }),
+        answers("gives Z for every payoff", |call| match call.kind {
+            Kind::Compile | Kind::Cut => right(call).map(|_| super::of_bytes(b"Z".to_vec())),
+            _ => right(call),
+        }),
         answers("takes 9 before the text", |call| {
             let told = right(call);
             match told {
@@ -193,6 +345,21 @@ pub fn all() -> Vec<Wrong> {
             },
         ),
     ]
+}
+
+/// How deep the last node is.
+fn last_depth(node: &Node) -> usize {
+    1 + node.children.last().map_or(0, last_depth)
+}
+
+/// Whether the 513th node is 33 deep.
+fn deep(node: &Node, depth: usize, nodes: &mut usize) -> bool {
+    *nodes += 1;
+    if *nodes == 513 {
+        return depth == 33;
+    }
+    let mut children = node.children.iter();
+    children.any(|child| *nodes < 513 && deep(child, depth + 1, nodes))
 }
 
 /// The answer to the same call with every field of its text changed.

@@ -64,6 +64,21 @@ pub fn all() -> Vec<Wrong> {
                 valuing(payoff, valuation, Mistake::LeavesStay)
             })
         }),
+        answers("adds no waited months to indices", |call| {
+            on_value(call, |payoff, valuation| {
+                valuing(payoff, valuation, Mistake::IndicesStay)
+            })
+        }),
+        answers("starts the second payoff without waiting", |call| {
+            on_value(call, |payoff, valuation| {
+                valuing(payoff, valuation, Mistake::SecondAtOnce)
+            })
+        }),
+        answers("values both branches of a wait", |call| {
+            on_value(call, |payoff, valuation| {
+                valuing(payoff, valuation, Mistake::BothBranches)
+            })
+        }),
         answers("takes a hit in the last month for a miss", |call| {
             on_value(call, |payoff, valuation| {
                 valuing(payoff, valuation, Mistake::LastHitMissed)
@@ -137,6 +152,9 @@ enum Mistake {
     LastHitMissed,
     PlanFirst,
     Wraps,
+    IndicesStay,
+    SecondAtOnce,
+    BothBranches,
 }
 
 /// An evaluation that goes wrong after everything before it was found right.
@@ -193,7 +211,10 @@ fn valuing(payoff: &Payoff, at: Valuation, mistake: Mistake) -> Result<i128, Ref
             at.value(payoff)
         }
         Payoff::Scale(factor, below) => {
-            let factor = at.amount(factor)?;
+            let factor = match mistake {
+                Mistake::IndicesStay => Valuation { waited: 0, ..at }.amount(factor)?,
+                _ => at.amount(factor)?,
+            };
             if factor == 0 && mistake == Mistake::SkipsZero {
                 return Ok(0);
             }
@@ -213,10 +234,16 @@ fn valuing(payoff: &Payoff, at: Valuation, mistake: Mistake) -> Result<i128, Ref
             let tried = d - i64::from(mistake == Mistake::LastHitMissed);
             for k in 0..=tried {
                 if trying(condition, after(k), mistake)? {
+                    if mistake == Mistake::BothBranches {
+                        valuing(second, after(d), mistake)?;
+                    }
                     return valuing(first, after(k), mistake);
                 }
             }
-            valuing(second, after(d), mistake)
+            match mistake {
+                Mistake::SecondAtOnce => valuing(second, at, mistake),
+                _ => valuing(second, after(d), mistake),
+            }
         }
     }
 }
