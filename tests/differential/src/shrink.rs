@@ -13,7 +13,7 @@ use interpreter::sheet::{read_sheet, Sheet};
 use interpreter::Table;
 
 /// The work that is done at most: one unit a try, more for a long text.
-const WORK: usize = 100_000;
+const WORK: usize = 60_000;
 
 /// Makes a call smaller as long as it fails.
 pub fn smallest_call(call: Call, fails: &dyn Fn(&Call) -> bool) -> Call {
@@ -41,7 +41,7 @@ fn smallest<T>(
         let mut place = 0;
         while let Some(smaller) = at(&input, place) {
             let weight = weigh(&input);
-            let effort = 1 + weight.0 / 50;
+            let effort = 1 + weight.0 / 50 + weight.1 as usize / 1000;
             work += effort;
             let next = smaller.into_iter().find(|next| {
                 work += effort;
@@ -474,19 +474,27 @@ fn shorter_tables(table: &Table) -> Vec<Table> {
         changed.bounds.pop();
         changed.values.truncate(months * changed.bounds.len());
         found.push(changed);
+        let mut changed = table.clone();
+        changed.bounds.remove(0);
+        changed.values.drain(..months);
+        found.push(changed);
     }
     let mut shorter = |h: i64, f: i64| {
-        let skip = (table.h - h) as usize;
         let keep = (h + f + 1) as usize;
-        let mut changed = table.clone();
-        (changed.h, changed.f) = (h, f);
-        changed.factors.truncate(f as usize + 1);
-        changed.values = table
-            .values
-            .chunks(months)
-            .flat_map(|own| own[skip..skip + keep].to_vec())
-            .collect();
-        found.push(changed);
+        let with = |values_from: usize, factors_from: usize| Table {
+            h,
+            f,
+            factors: table.factors[factors_from..][..f as usize + 1].to_vec(),
+            bounds: table.bounds.clone(),
+            values: table
+                .values
+                .chunks(months)
+                .flat_map(|own| own[values_from..][..keep].to_vec())
+                .collect(),
+        };
+        // The months that stay are those before, or those behind.
+        found.push(with((table.h - h) as usize, 0));
+        found.push(with(months - keep, (table.f - f) as usize));
     };
     if table.f > 0 {
         shorter(table.h, table.f / 2);

@@ -38,7 +38,16 @@ fn fields(random: &mut Random, text: &mut Vec<u8>) {
         .map(<[u8]>::to_vec)
         .collect();
     let at = random.below(fields.len());
-    match random.below(9) {
+    let open: Vec<usize> = (0..fields.len())
+        .filter(|at| fields[*at].contains(&b'+'))
+        .collect();
+    if !open.is_empty() && random.chance(20) {
+        let at = *random.pick(&open);
+        fields[at] = settings(random, &fields[at]);
+        *text = fields.join(&b',');
+        return;
+    }
+    match random.below(13) {
         0 => {
             fields.remove(at);
         }
@@ -59,12 +68,12 @@ fn fields(random: &mut Random, text: &mut Vec<u8>) {
                 .filter(|at| fields[*at].iter().any(u8::is_ascii_digit))
                 .collect();
             if like.len() == 1 && !like[0].is_ascii_digit() && random.chance(50) {
-                fields[at] = letter(random);
+                fields[at] = letter(random, &like);
             } else if !numbers.is_empty() {
                 let at = *random.pick(&numbers);
                 fields[at] = number(random, &fields[at]);
             } else {
-                fields[at] = letter(random);
+                fields[at] = letter(random, &like);
             }
         }
     }
@@ -72,9 +81,10 @@ fn fields(random: &mut Random, text: &mut Vec<u8>) {
 }
 
 /// Some letter, of any kind or of none.
-fn letter(random: &mut Random) -> Vec<u8> {
+fn letter(random: &mut Random, old: &[u8]) -> Vec<u8> {
     match random.below(12) {
-        0 => random
+        0 => old.to_ascii_lowercase(),
+        1 => random
             .pick(&[&b"z"[..], b"J", b"ZZ", b"", b"M", b"P", b"0", b"S "])
             .to_vec(),
         _ => vec![*random.pick(b"ZTSLBWNOAUKQIGEYVRFH")],
@@ -196,7 +206,7 @@ fn one_of_table(random: &mut Random, table: &mut Table) {
             list[at] = value;
         }
     };
-    match random.below(16) {
+    match random.below(18) {
         0 => table.h = *random.pick(&[-1, 61, 62, -60]),
         1 => table.f = *random.pick(&[-1, 601, 602, -2]),
         2 => table.h = extreme(random),
@@ -220,7 +230,7 @@ fn one_of_table(random: &mut Random, table: &mut Table) {
         12 => {
             table.values.pop();
         }
-        13 => {
+        13 | 16 => {
             // Nine labels and more, their values all there.
             let months = (i128::from(table.h) + i128::from(table.f) + 1).clamp(0, 700) as usize;
             let labels = random.range(9, 12) as usize;

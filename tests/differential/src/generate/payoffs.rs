@@ -14,7 +14,7 @@ impl When for Month {
         }
         let least = (-scene.table.h - roots.earliest).max(-60);
         let most = scene.table.f - roots.latest;
-        if scene.wild > 0 && random.chance(3) {
+        if scene.near && random.chance(8) {
             return Some(beyond(random, least, most));
         }
         (least <= most).then(|| month(random, scene, least, most))
@@ -155,7 +155,7 @@ fn leaf(random: &mut Random, scene: &Scene, waited: Roots, limit: i64) -> Payoff
     }
     let month = if scene.is_wild(random) {
         any_month(random)
-    } else if scene.wild > 0 && random.chance(6) {
+    } else if scene.near && random.chance(12) {
         beyond(random, least, most)
     } else {
         month(random, scene, least, most)

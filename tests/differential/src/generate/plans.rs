@@ -21,9 +21,10 @@ impl When for Offset {
         };
         let least = (-scene.table.h - roots.earliest).max(-60);
         let most = (scene.table.f - roots.latest).min(600).min(known);
-        if wild {
+        if wild || (scene.near && random.chance(10)) {
             let beyond = [least - 1, most + 1].map(|offset| offset.clamp(-60, 600));
             return Some(Offset(match random.below(2) {
+                _ if !wild => *random.pick(&beyond),
                 0 => *random.pick(&beyond),
                 _ => *random.pick(&[-60, -1, 0, 1, 17, 600]),
             }));
@@ -136,8 +137,9 @@ pub fn parties(random: &mut Random) -> (i64, i64) {
 /// A pair to ask for, mostly one that parties of plans belong to.
 pub fn pair(random: &mut Random) -> (i64, i64) {
     match random.below(20) {
-        0..=8 => (1, 2),
-        9..=16 => (2, 1),
+        0..=7 => (1, 2),
+        8..=15 => (2, 1),
+        16 => (1, 1),
         _ => parties(random),
     }
 }

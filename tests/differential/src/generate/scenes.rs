@@ -18,6 +18,8 @@ pub struct Scene {
     pub bold: bool,
     /// Whether amounts may be known too late.
     pub late: bool,
+    /// Whether some months lie just outside the table.
+    pub near: bool,
     /// Whether the months of payoffs have as many settings as they can.
     pub long_months: bool,
 }
@@ -46,7 +48,8 @@ impl Scene {
             numbers,
             wild: random.weighted(&[(66, 0), (25, 4), (9, 25)]),
             bold: random.chance(8),
-            late: random.chance(8),
+            late: random.chance(10),
+            near: random.chance(10),
             long_months,
         }
     }
@@ -57,6 +60,7 @@ impl Scene {
             wild: 0,
             bold: false,
             late: false,
+            near: false,
             today: 0,
             ..Scene::random(random)
         }
