@@ -24,6 +24,8 @@ pub struct Harness<'a, C: Calls> {
     /// The calls to be compared; the others are only foretold.
     pub only: Vec<Kind>,
     pub coverage: Option<Coverage>,
+    /// Whether each call is written to standard error before it is made, for one that never returns.
+    pub trace: bool,
     pub compared: u64,
 }
 
@@ -33,6 +35,7 @@ impl<'a, C: Calls> Harness<'a, C> {
             calls,
             only: only.to_vec(),
             coverage: None,
+            trace: false,
             compared: 0,
         }
     }
@@ -47,6 +50,9 @@ impl<'a, C: Calls> Harness<'a, C> {
             return Ok(call.foretold());
         }
         self.compared += 1;
+        if self.trace {
+            eprintln!("{}", replay::written(call));
+        }
         let told = compare(self.calls, call).map_err(Fault::Call)?;
         if let Some(coverage) = &mut self.coverage {
             coverage.record(call, &told);
@@ -62,13 +68,19 @@ impl<'a, C: Calls> Harness<'a, C> {
     }
 
     /// Compares until `calls` calls are made; `watch` is told before each scenario.
-    pub fn run(
+    pub fn run(&mut self, calls: u64, seed: u64, watch: impl FnMut(u64, u64)) -> Result<(), Fault> {
+        self.run_from(0, calls, seed, watch)
+    }
+
+    /// The same, beginning with a later scenario.
+    pub fn run_from(
         &mut self,
+        first: u64,
         calls: u64,
         seed: u64,
         mut watch: impl FnMut(u64, u64),
     ) -> Result<(), Fault> {
-        let mut index = 0;
+        let mut index = first;
         while self.compared < calls {
             watch(index, self.compared);
             scenario::run(&mut Random::of(seed, index), self)?;

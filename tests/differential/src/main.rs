@@ -1,5 +1,9 @@
-//! `differential [--calls N] [--seed S] [--only check,payment,..] [--coverage] [--trace]
-//! [--replay FILE]`: random calls of the engine compared with the interpreter.
+//! `differential [--calls N] [--seed S] [--only check,payment,..] [--coverage]`: random calls of the
+//! engine compared with the interpreter.
+//!
+//! `--replay FILE` makes the one call that a report tells of. For an engine that does not come back:
+//! `--scenarios` names each scenario before it runs, and `--from K --calls 1 --trace` runs the Kth
+//! and writes each of its calls before it is made.
 
 use differential::calls::{Engine, Kind};
 use differential::compare::compare;
@@ -14,7 +18,11 @@ struct Options {
     seed: u64,
     only: Vec<Kind>,
     coverage: bool,
-    /// Whether each scenario is named before it runs, for an engine that does not come back.
+    /// Whether each scenario is named before it runs.
+    scenarios: bool,
+    /// The first scenario.
+    from: u64,
+    /// Whether each call is written before it is made.
     trace: bool,
     replay: Option<String>,
 }
@@ -48,10 +56,11 @@ fn run(options: &Options) -> ExitCode {
     if options.coverage {
         harness.coverage = Some(Coverage::default());
     }
+    harness.trace = options.trace;
     let started = Instant::now();
     let mut told = started;
-    let result = harness.run(options.calls, seed, |index, compared| {
-        if options.trace {
+    let result = harness.run_from(options.from, options.calls, seed, |index, compared| {
+        if options.scenarios {
             eprintln!("scenario {index}");
         } else if told.elapsed() > Duration::from_secs(5) {
             told = Instant::now();
@@ -109,6 +118,8 @@ fn options(arguments: impl Iterator<Item = String>) -> Result<Options, String> {
         seed: 1,
         only: Kind::ALL.to_vec(),
         coverage: false,
+        scenarios: false,
+        from: 0,
         trace: false,
         replay: None,
     };
@@ -133,6 +144,8 @@ fn options(arguments: impl Iterator<Item = String>) -> Result<Options, String> {
                     .collect::<Result<_, _>>()?;
             }
             "--coverage" => options.coverage = true,
+            "--scenarios" => options.scenarios = true,
+            "--from" => options.from = number(value()?)?,
             "--trace" => options.trace = true,
             "--replay" => options.replay = Some(value()?),
             other => return Err(format!("what is {other}?")),

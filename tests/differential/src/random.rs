@@ -8,11 +8,11 @@ impl Random {
     /// The source of the `index`th scenario of a run.
     pub fn of(seed: u64, index: u64) -> Random {
         let mut mixed = Random(seed);
-        let seed = mixed.next();
+        let seed = mixed.word();
         Random(seed ^ index.wrapping_mul(0xD6E8_FEB8_6659_FD93))
     }
 
-    pub fn next(&mut self) -> u64 {
+    pub fn word(&mut self) -> u64 {
         self.0 = self.0.wrapping_add(0x9E37_79B9_7F4A_7C15);
         let mut z = self.0;
         z = (z ^ (z >> 30)).wrapping_mul(0xBF58_476D_1CE4_E5B9);
@@ -23,14 +23,14 @@ impl Random {
     /// 0 to `count` - 1.
     pub fn below(&mut self, count: usize) -> usize {
         assert!(count > 0, "nothing to choose from");
-        (self.next() % count as u64) as usize
+        (self.word() % count as u64) as usize
     }
 
     /// `least` to `most`, both among them.
     pub fn range(&mut self, least: i64, most: i64) -> i64 {
         assert!(least <= most, "an empty range");
         let count = i128::from(most) - i128::from(least) + 1;
-        (i128::from(least) + i128::from(self.next()) % count) as i64
+        (i128::from(least) + i128::from(self.word()) % count) as i64
     }
 
     /// True in `percent` of a hundred cases.

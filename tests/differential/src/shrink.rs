@@ -151,12 +151,15 @@ fn call_at(call: &Call, place: usize) -> Option<Vec<Call>> {
         };
         texts.into_iter().map(with).collect()
     };
-    let (text_places, text_at): (usize, fn(&[u8], usize) -> Vec<Vec<u8>>) = match call.kind {
-        Kind::Sheet => (sheet_places(&call.text), sheet_at),
-        _ => (text_places(&call.text), text_at),
+    let places = match call.kind {
+        Kind::Sheet => sheet_places(&call.text),
+        _ => text_places(&call.text),
     };
-    let Some(place) = place.checked_sub(text_places) else {
-        return Some(texts(text_at(&call.text, place)));
+    let Some(place) = place.checked_sub(places) else {
+        return Some(texts(match call.kind {
+            Kind::Sheet => sheet_at(&call.text, place),
+            _ => text_at(&call.text, place),
+        }));
     };
     let Some(place) = place.checked_sub(table_places(&call.table)) else {
         let with = |table| Call {

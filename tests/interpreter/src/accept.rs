@@ -148,7 +148,7 @@ fn known_in_time(plan: &Plan, days: &[i64]) -> Result<(), Refusal> {
             known_in_time(other, days)
         }
         Plan::Wait(_, test, one, other) => {
-            let in_time = latest_of_test(test).map_or(true, |latest| latest <= 0);
+            let in_time = latest_of_test(test).is_none_or(|latest| latest <= 0);
             demand(in_time, Refusal::TestTooLate)?;
             known_in_time(one, days)?;
             known_in_time(other, days)

@@ -16,7 +16,7 @@ pub fn text(random: &mut Random, text: &mut Vec<u8>) {
 /// An edit that knows nothing of fields.
 fn bytes(random: &mut Random, text: &mut Vec<u8>) {
     if text.is_empty() {
-        text.push(random.next() as u8);
+        text.push(random.word() as u8);
         return;
     }
     let at = random.below(text.len());
@@ -25,7 +25,7 @@ fn bytes(random: &mut Random, text: &mut Vec<u8>) {
         1 => {
             text.remove(at);
         }
-        2 => text.insert(at, random.next() as u8),
+        2 => text.insert(at, random.word() as u8),
         3 => text.insert(at, *random.pick(b",,-+0P19ZNBLST \n")),
         _ => text.truncate(at),
     }

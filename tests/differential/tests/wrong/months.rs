@@ -14,6 +14,9 @@ pub fn all() -> Vec<Wrong> {
         answers("copies the plan instead of stepping", |call| {
             on_step(call, |plan, world| filled(plan, world.days))
         }),
+        answers("steps every plan to Z", |call| {
+            on_step(call, |_, _| Plan::Nothing)
+        }),
         answers("steps in month 0 and copies afterwards", |call| {
             on_step(call, |plan, world| match world.month {
                 0 => stepped(&filled(plan, world.days), world),
