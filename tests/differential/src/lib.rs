@@ -6,6 +6,7 @@
 pub mod calls;
 pub mod compare;
 pub mod coverage;
+pub mod exhaustive;
 pub mod generate;
 pub mod harness;
 pub mod random;

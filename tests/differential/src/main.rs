@@ -1,6 +1,8 @@
 //! `differential [--calls N] [--seed S] [--only check,payment,..] [--coverage]`: random calls of the
 //! engine compared with the interpreter.
 //!
+//! `differential --exhaustive K [--only ..]`: calls on every text of at most K fields instead.
+//!
 //! `--replay FILE` makes the one call that a report tells of. For an engine that does not come back:
 //! `--scenarios` names each scenario before it runs, and `--from K --calls 1 --trace` runs the Kth
 //! and writes each of its calls before it is made.
@@ -8,6 +10,7 @@
 use differential::calls::{Engine, Kind};
 use differential::compare::compare;
 use differential::coverage::Coverage;
+use differential::exhaustive;
 use differential::harness::{report, Harness};
 use differential::replay;
 use std::process::ExitCode;
@@ -25,6 +28,8 @@ struct Options {
     /// Whether each call is written before it is made.
     trace: bool,
     replay: Option<String>,
+    /// The greatest number of fields, where every short text is wanted.
+    exhaustive: Option<u64>,
 }
 
 fn main() -> ExitCode {
@@ -59,7 +64,7 @@ fn run(options: &Options) -> ExitCode {
     harness.trace = options.trace;
     let started = Instant::now();
     let mut told = started;
-    let result = harness.run_from(options.from, options.calls, seed, |index, compared| {
+    let watch = |index, compared| {
         if options.scenarios {
             eprintln!("scenario {index}");
         } else if told.elapsed() > Duration::from_secs(5) {
@@ -70,20 +75,28 @@ fn run(options: &Options) -> ExitCode {
                 started.elapsed().as_secs()
             );
         }
-    });
+    };
+    let result = match options.exhaustive {
+        Some(longest) => exhaustive::run(&mut harness, longest as usize),
+        None => harness.run_from(options.from, options.calls, seed, watch),
+    };
     if let Some(coverage) = &harness.coverage {
         print!("{}", coverage.table(&options.only));
     }
     let compared = harness.compared;
+    let which = match options.exhaustive {
+        Some(longest) => format!("every text of {longest} fields"),
+        None => format!("seed {seed}"),
+    };
     match result {
         Ok(()) => {
-            println!("differential: {compared} calls, 0 differences (seed {seed})");
+            println!("differential: {compared} calls, 0 differences ({which})");
             ExitCode::SUCCESS
         }
         Err(fault) => {
             let smallest = harness.smallest(fault);
             print!("{}", report(&smallest));
-            println!("differential: {compared} calls, 1 difference (seed {seed})");
+            println!("differential: {compared} calls, 1 difference ({which})");
             ExitCode::FAILURE
         }
     }
@@ -122,6 +135,7 @@ fn options(arguments: impl Iterator<Item = String>) -> Result<Options, String> {
         from: 0,
         trace: false,
         replay: None,
+        exhaustive: None,
     };
     let mut arguments = arguments;
     while let Some(argument) = arguments.next() {
@@ -147,6 +161,7 @@ fn options(arguments: impl Iterator<Item = String>) -> Result<Options, String> {
             "--scenarios" => options.scenarios = true,
             "--from" => options.from = number(value()?)?,
             "--trace" => options.trace = true,
+            "--exhaustive" => options.exhaustive = Some(number(value()?)?),
             "--replay" => options.replay = Some(value()?),
             other => return Err(format!("what is {other}?")),
         }

@@ -270,7 +270,9 @@ fn roll<C: Calls>(random: &mut Random, harness: &mut Harness<C>) -> Result<(), F
     let text = print::plan(&plan(random, &scene, budget));
     let mut first = call_in(random, &scene, Kind::Step, text);
     first.today = 0;
-    let months = scene.table.f.min(24) as usize + 2;
+    // Most lists end before a long table does; some go all the way.
+    let most = if random.chance(10) { 600 } else { 24 };
+    let months = scene.table.f.min(most) as usize + 2;
     let mut events = vec![];
     for _ in 0..months {
         while random.chance(15) {

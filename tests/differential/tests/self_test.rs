@@ -4,6 +4,7 @@
 mod wrong;
 
 use differential::calls::{Interpreter, Kind};
+use differential::exhaustive;
 use differential::harness::{report, Fault, Harness};
 use wrong::Wrong;
 
@@ -72,6 +73,25 @@ fn the_interpreter_is_like_itself() {
     let mut harness = Harness::new(&Interpreter, &Kind::ALL);
     if let Err(fault) = harness.run(20_000, 7, |_, _| ()) {
         panic!("{}", report(&harness.smallest(fault)));
+    }
+}
+
+/// Every text of up to four fields shows some of the wrong versions, and none where all is right.
+#[test]
+fn short_texts_show_what_is_wrong() {
+    let mut harness = Harness::new(&Interpreter, &Kind::ALL);
+    assert!(exhaustive::run(&mut harness, 4).is_ok());
+    for wrong in wrong::texts::all().into_iter().chain(wrong::months::all()) {
+        let shown = [
+            "reads leading zeros",
+            "steps every plan to Z",
+            "pays nothing ever",
+            "keeps an L with 0 for another month",
+        ];
+        if shown.contains(&wrong.name) {
+            let mut harness = Harness::new(&wrong, &Kind::ALL);
+            assert!(exhaustive::run(&mut harness, 4).is_err(), "{}", wrong.name);
+        }
     }
 }
 
