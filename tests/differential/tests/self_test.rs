@@ -53,6 +53,16 @@ fn wrong_texts_are_found() {
 }
 
 #[test]
+fn wrong_orders_are_found() {
+    found(wrong::order::all());
+}
+
+#[test]
+fn wrong_sheets_are_found() {
+    found(wrong::sheets::all());
+}
+
+#[test]
 fn wrong_rules_are_found() {
     found(wrong::rules::all());
 }

@@ -2,7 +2,9 @@
 
 pub mod buffers;
 pub mod months;
+pub mod order;
 pub mod rules;
+pub mod sheets;
 pub mod texts;
 pub mod values;
 
