@@ -18,11 +18,16 @@ pub enum Fault {
     Roll(Box<Broken>),
 }
 
+/// One who answers a call without buffers.
+pub type Answerer<'a> = Box<dyn Fn(&Call) -> Result<Answer, Refusal> + 'a>;
+
 /// One side to be compared with the interpreter, and what was compared so far.
 pub struct Harness<'a, C: Calls> {
     calls: &'a C,
-    /// The calls to be compared; the others are only foretold.
+    /// The calls to be compared.
     pub only: Vec<Kind>,
+    /// Who answers the others: the interpreter, except where rolls themselves are tested.
+    pub others: Answerer<'a>,
     pub coverage: Option<Coverage>,
     /// Whether each call is written to standard error before it is made, for one that never returns.
     pub trace: bool,
@@ -34,6 +39,7 @@ impl<'a, C: Calls> Harness<'a, C> {
         Harness {
             calls,
             only: only.to_vec(),
+            others: Box::new(Call::foretold),
             coverage: None,
             trace: false,
             compared: 0,
@@ -47,7 +53,7 @@ impl<'a, C: Calls> Harness<'a, C> {
     /// Makes the call on both sides; the answer that both give.
     pub fn compare(&mut self, call: &Call) -> Result<Result<Answer, Refusal>, Fault> {
         if !self.compares(call.kind) {
-            return Ok(call.foretold());
+            return Ok((self.others)(call));
         }
         self.compared += 1;
         if self.trace {

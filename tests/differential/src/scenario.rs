@@ -264,7 +264,7 @@ fn on_sheet<C: Calls>(random: &mut Random, harness: &mut Harness<C>) -> Result<(
 }
 
 /// A list of month steps with refused calls in between.
-fn roll<C: Calls>(random: &mut Random, harness: &mut Harness<C>) -> Result<(), Fault> {
+pub fn roll<C: Calls>(random: &mut Random, harness: &mut Harness<C>) -> Result<(), Fault> {
     let scene = Scene::tame(random);
     let budget = Budget::random(random);
     let text = print::plan(&plan(random, &scene, budget));

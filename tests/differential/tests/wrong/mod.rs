@@ -1,5 +1,7 @@
 //! Versions of the interpreter that are wrong on purpose.
 
+#![allow(dead_code)]
+
 pub mod buffers;
 pub mod months;
 pub mod order;
@@ -28,13 +30,20 @@ pub enum How {
     Writes(fn(&Call, &mut [u8], &mut [i64]) -> i32),
 }
 
+impl Wrong {
+    /// Its answer, 13 where there is not enough room; the right one where only buffers are wrong.
+    pub fn told(&self, call: &Call) -> Result<Answer, Refusal> {
+        match self.how {
+            How::Answers(answers) => answers(call).and_then(|told| fitting(call, told)),
+            How::Writes(_) => call.foretold(),
+        }
+    }
+}
+
 impl Calls for Wrong {
     fn call(&self, call: &Call, out: &mut [u8], answer: &mut [i64]) -> i32 {
         match self.how {
-            How::Answers(answers) => {
-                let told = answers(call).and_then(|told| fitting(call, told));
-                write(told, out, answer)
-            }
+            How::Answers(_) => write(self.told(call), out, answer),
             How::Writes(writes) => writes(call, out, answer),
         }
     }
