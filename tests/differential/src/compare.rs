@@ -61,11 +61,18 @@ impl Outcome {
             0 => "accepted".to_string(),
             refusal => format!("refused {refusal}"),
         };
-        let answer = &self.answer[GUARD..self.answer.len() - GUARD];
+        // Numbers that were not written stand as `_`.
+        let answer: Vec<String> = (GUARD..self.answer.len() - GUARD)
+            .map(|at| match self.answer[at] == before.answer[at] {
+                true => "_".to_string(),
+                false => self.answer[at].to_string(),
+            })
+            .collect();
+        let answer = answer.join(" ");
         if self.status == 0 {
-            words += &format!(", answer {answer:?}");
+            words += &format!(", answer {answer}");
         } else if self.answer != before.answer {
-            words += &format!(", but wrote answer {answer:?}");
+            words += &format!(", but wrote answer {answer}");
         }
         let written = self.out.len() - GUARD;
         if let Some(last) = (GUARD..written).rfind(|at| self.out[*at] != before.out[*at]) {

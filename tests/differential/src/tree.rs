@@ -195,6 +195,7 @@ pub fn smaller_field(field: &[u8]) -> Vec<Vec<u8>> {
             }
             found
         }
+        None if field.starts_with(b"P") => [&b"0"[..], b"1", b"P0"].map(<[u8]>::to_vec).to_vec(),
         None if field != b"0" => vec![b"0".to_vec()],
         None => vec![],
     }

@@ -71,13 +71,15 @@ fn smallest<T>(
 /// How many parts a call has, then how large its numbers are.
 fn weight(call: &Call) -> (usize, u64) {
     let bits = |number: i64| {
-        let size = u64::from(64 - number.unsigned_abs().leading_zeros());
-        2 * size + u64::from(number < 0)
+        let size = number.unsigned_abs();
+        let length = u64::from(64 - size.leading_zeros());
+        8 * length + 2 * size.min(3) + u64::from(number < 0)
     };
     let fields = call.text.split(|byte| matches!(byte, b',' | b'\n' | b'+'));
     let field_bits = |field: &[u8]| match std::str::from_utf8(field).map(str::parse::<i64>) {
         Ok(Ok(number)) => bits(number),
-        _ => field.len() as u64 * 4,
+        // `P5` is more than `P0`, and both are more than a small number.
+        _ => field.len() as u64 * 16 + field.last().map_or(0, |last| u64::from(last % 16)),
     };
     let table = &call.table;
     let lists = [&call.days, &table.factors, &table.bounds, &table.values];
