@@ -1,0 +1,92 @@
+//! The C interface: lengths of 0, buffers of the exact size, and nothing written after a refusal.
+
+use crate::say::*;
+use crate::Case;
+use engine::lent;
+
+pub fn all() -> Vec<Case> {
+    vec![
+        Case {
+            name: "an empty text and empty lists",
+            needs: &["check"],
+            run: || {
+                let table = engine::Table {
+                    h: 0,
+                    f: 0,
+                    factors: &[],
+                    bounds: &[],
+                    values: &[],
+                };
+                same(lent::check(&[], &[], &table, 0, &mut []), 2)?;
+                same(lent::check(b"Z", &[], &table, 0, &mut []), 9)
+            },
+        },
+        Case {
+            name: "an answer too short is 13, after all else, and writes nothing",
+            needs: &["check"],
+            run: || {
+                let numbers = bare(0, 0);
+                let table = numbers.table();
+                let mut answer = [77];
+                same(lent::check(b"Z", &[], &table, 0, &mut answer), 13)?;
+                same(lent::check(b"N", &[], &table, 0, &mut answer), 5)?;
+                same(lent::check(b"L,1,Z", &[], &table, 0, &mut answer), 10)?;
+                same(answer, [77])
+            },
+        },
+        Case {
+            name: "a long answer keeps its other numbers",
+            needs: &["payment"],
+            run: || {
+                let numbers = bare(0, 0);
+                let table = numbers.table();
+                let mut answer = [77, 78];
+                let status = lent::payment(b"T,2,1", &[], &table, 0, 1, 2, 0, &mut answer);
+                same((status, answer), (0, [-1, 78]))
+            },
+        },
+        Case {
+            name: "cut: exact size, one byte short, longer",
+            needs: &["cut"],
+            run: || {
+                let payoff = b"F,0,1,2";
+                let (mut out, mut answer) = (*b"-------*", [77]);
+                same(lent::cut(payoff, &mut out[..6], &mut answer), 13)?;
+                same(lent::cut(payoff, &mut out[..7], &mut []), 13)?;
+                same((&out, answer), (b"-------*", [77]))?;
+                same(lent::cut(payoff, &mut out[..7], &mut answer), 0)?;
+                same((&out, answer), (b"H,0,1,2*", [7]))?;
+                same(lent::cut(b"Z", &mut out, &mut answer), 0)?;
+                same((&out, answer), (b"Z,0,1,2*", [1]))
+            },
+        },
+        Case {
+            name: "step: exact size, one byte short",
+            needs: &["step"],
+            run: || {
+                let numbers = bare(0, 2);
+                let table = numbers.table();
+                let (mut out, mut answer) = (*b"-----*", [77, 78, 79]);
+                let lend = |out: &mut [u8], answer: &mut [i64]| {
+                    lent::step(b"L,2,Z", &[], &table, 0, 1, 2, out, answer)
+                };
+                same(lend(&mut out[..4], &mut answer), 13)?;
+                same(lend(&mut out[..5], &mut answer[..1]), 13)?;
+                same((&out, answer), (b"-----*", [77, 78, 79]))?;
+                same(lend(&mut out[..5], &mut answer), 0)?;
+                same((&out, answer), (b"L,1,Z*", [0, 5, 79]))
+            },
+        },
+        Case {
+            name: "sheet: a refused sheet is written, or 13",
+            needs: &["sheet"],
+            run: || {
+                let (mut out, mut answer) = (*b"----------*", [77]);
+                same(lent::sheet(b"", &mut out[..9], &mut answer), 13)?;
+                same((&out, answer), (b"----------*", [77]))?;
+                same(lent::sheet(b"", &mut out[..10], &mut answer), 0)?;
+                same((&out, answer), (b"refused,2\n*", [10]))
+            },
+        },
+    ]
+}
