@@ -1,133 +1,147 @@
+use Prim.Native.Nat.{_<_, _≤_, ℕ}
 use borrow.Author.Needs.{needs}
+use lib.IntN.{natAbs, pos, ℤ}
+use lib.ListN.{getD, length}
+use mathlib.Core.List.{List, [], _∷_}
+use mathlib.Core.Path.{_∙_, _≡_, ap, refl, subst, sym}
+use mir.Facts.{toZ-ofZ}
+use mir.Syntax.{w64}
+use mir.Val.{SFits, toZ}
+use native.Mathlib.Omega.{arith}
+use Rattle.integers.proofs.Laws.{sfits64}
+use Rattle.columns.specs.Remaining.{restFrom}
+use Rattle.printing.specs.Lines.{answerCall}
+use Rattle.payments.proofs.StepPlaced.{pair-is, placing, rows-in, span-in, stands, today-is}
+use Rattle.rules.proofs.Filling.{standing-rows}
+use Rattle.rules.specs.Answers.{checkingAnswer}
+use Rattle.sheets.proofs.Accepted.{answer-is, factors-count, length-is, length-small, magnitude-is, magnitude-small, span-kept, sums, weighs, zeros-empty}
+use Rattle.sheets.proofs.Refusals.{refused-into}
 use Rattle.sheets.proofs.answer.Statement.{statement}
 use Rattle.sheets.proofs.answer.Tie as tie
-use Rattle.sheets.proofs.answer.Reads as reads
-use Rattle.sheets.proofs.answer.Lts as lts
-use Rattle.columns.proofs.plan_column.Reads as plan-column-reads
-use Rattle.columns.proofs.remaining.add_back.Reads as add-back-reads
-use Rattle.integers.proofs.magnitude.Reads as magnitude-reads
-use Rattle.places.proofs.place_rows.Reads as place-rows-reads
-use Rattle.printing.proofs.write_answer.Reads as write-answer-reads
-use Rattle.rules.proofs.accept.Reads as accept-reads
-use Rattle.sheets.proofs.months_of.Reads as months-of-reads
-use Rattle.sheets.proofs.refuse.Reads as refuse-reads
 
--- src/lib.rt:66:9
 accept-requires : tie.Need-accept-requires
-accept-requires c κs = search needs
+accept-requires c κs = c .before .before .pre .0
 
--- src/lib.rt:78:28
-enum-known-checking : tie.Need-enum-known-checking
-enum-known-checking c = search needs
-
--- src/lib.rt:79:13
 place-rows-requires : tie.Need-place-rows-requires
-place-rows-requires c κs = ?
+place-rows-requires c κs =
+    let s = c .before .before .before .before .before .before .before in
+    let a = s .args in
+    let w = placing (a .pair .p) (a .pair .q) (c .before .before .before .before .accept .ensures) (s .pre .1) (c .before .before .checking .given .1) (s .pre .0 .standing) in
+    let e : length (c .before .before .before .before .accept .last .0) ≡ 2560 = search needs in
+    (omega (arith, standing-rows (s .pre .0 .standing)), span-in w, rows-in w)
 
--- src/lib.rt:81:75
-slice-aggregate-plan-column : tie.Need-slice-aggregate-plan-column
-slice-aggregate-plan-column c = search needs
-
--- src/lib.rt:81:13
 plan-column-requires : tie.Need-plan-column-requires
-plan-column-requires c κs = ?
+plan-column-requires c κs =
+    let s = c .before .before .before .before .before .before .before .before .before .before in
+    let a = s .args in
+    let w = placing (a .pair .p) (a .pair .q) (c .before .before .before .before .before .before .before .accept .ensures) (s .pre .1) (c .before .before .before .before .before .checking .given .1) (s .pre .0 .standing) in
+    let r = c .before .before .place-rows in
+    (today-is w, pair-is w, stands w (r .last .0) (r .ensures), weighs w (r .last .0) (r .ensures) _ (zeros-empty 601) refl)
 
--- src/lib.rt:83:17
 months-of-requires : tie.Need-months-of-requires
-months-of-requires c κs = ?
+months-of-requires c κs =
+    let s = c .before .before .before .before .before .before .before .before .before .before .before .before in
+    let a = s .args in
+    let w = placing (a .pair .p) (a .pair .q) (c .before .before .before .before .before .before .before .before .before .accept .ensures) (s .pre .1) (c .before .before .before .before .before .before .before .checking .given .1) (s .pre .0 .standing) in
+    span-kept w
 
--- src/lib.rt:84:42
-slice-aggregate-add-back : tie.Need-slice-aggregate-add-back
-slice-aggregate-add-back c = search needs
-
--- src/lib.rt:84:51
-slice-aggregate-add-back-2 : tie.Need-slice-aggregate-add-back-2
-slice-aggregate-add-back-2 c = search needs
-
--- src/lib.rt:84:13
 add-back-requires : tie.Need-add-back-requires
-add-back-requires c κs = ?
+add-back-requires c κs =
+    let s = c .before .before .before .before .before .before .before .before .before .before .before .before .before .before .before in
+    let a = s .args in
+    let w = placing (a .pair .p) (a .pair .q) (c .before .before .before .before .before .before .before .before .before .before .before .before .accept .ensures) (s .pre .1) (c .before .before .before .before .before .before .before .before .before .before .checking .given .1) (s .pre .0 .standing) in
+    let r = c .before .before .before .before .before .before .before .place-rows in
+    let n = c .before .before .months-of .ensures in
+    let k : length (c .before .before .before .before .plan-column .last .1 .1 .1 .1 .1 .0) ≡ 601 = search needs in
+    (omega (arith, n, factors-count w), omega (arith, n, k, span-kept w .fTo), omega (arith, n, span-kept w .fTo), rw n (sums w (r .last .0) (r .ensures) _ (zeros-empty 601) refl (c .before .before .before .before .plan-column .ensures)))
 
--- src/lib.rt:85:21
-magnitude-requires : tie.Need-magnitude-requires
-magnitude-requires c κs = search needs
-
--- src/lib.rt:85:21
 cast-a : tie.Need-cast-a
-cast-a c = ?
+cast-a c =
+    let s = c .before .before .before .before .before .before .before .before .before .before .before .before .before .before .before .before .before .before .before in
+    let a = s .args in
+    let w = placing (a .pair .p) (a .pair .q) (c .before .before .before .before .before .before .before .before .before .before .before .before .before .before .before .before .accept .ensures) (s .pre .1) (c .before .before .before .before .before .before .before .before .before .before .before .before .before .before .checking .given .1) (s .pre .0 .standing) in
+    let ch = ap checkingAnswer (sym (c .before .before .before .before .before .before .before .before .before .before .before .before .before .before .checking .given .1)) ∙ c .before .before .before .before .before .before .before .before .before .before .before .before .before .before .before .before .accept .ensures .answer (s .pre .0 .plan) (s .pre .0 .standing) in
+    let fl : SFits w64 (c .before .before .before .before .before .before .before .before .before .before .before .before .before .before .checking .given .0 .0 .0) = sfits64 600 (length-small w _ _ _ ch (s .pre .1)) tt in
+    let el = c .magnitude .ensures ∙ ap natAbs (toZ-ofZ fl) in
+    let za : natAbs (pos (c .magnitude .result)) ≤ 600 = omega (arith, el, length-small w _ _ _ ch (s .pre .1)) in
+    let fa : SFits w64 (pos (c .magnitude .result)) = sfits64 600 za tt in
+    fa
 
--- src/lib.rt:86:21
-magnitude-requires-2 : tie.Need-magnitude-requires-2
-magnitude-requires-2 c κs = search needs
-
--- src/lib.rt:86:21
 cast-b : tie.Need-cast-b
-cast-b c = ?
+cast-b c =
+    let s = c .before .before .before .before .before .before .before .before .before .before .before .before .before .before .before .before .before .before .before .before .before in
+    let a = s .args in
+    let w = placing (a .pair .p) (a .pair .q) (c .before .before .before .before .before .before .before .before .before .before .before .before .before .before .before .before .before .before .accept .ensures) (s .pre .1) (c .before .before .before .before .before .before .before .before .before .before .before .before .before .before .before .before .checking .given .1) (s .pre .0 .standing) in
+    let ch = ap checkingAnswer (sym (c .before .before .before .before .before .before .before .before .before .before .before .before .before .before .before .before .checking .given .1)) ∙ c .before .before .before .before .before .before .before .before .before .before .before .before .before .before .before .before .before .before .accept .ensures .answer (s .pre .0 .plan) (s .pre .0 .standing) in
+    let fm : SFits w64 (c .before .before .before .before .before .before .before .before .before .before .before .before .before .before .before .before .checking .given .0 .1 .0 .0) = sfits64 9_000_000_000_000 (magnitude-small w _ _ _ ch (s .pre .1)) tt in
+    let em = c .magnitude2 .ensures ∙ ap natAbs (toZ-ofZ fm) in
+    let zb : natAbs (pos (c .magnitude2 .result)) ≤ 9_000_000_000_000 = omega (arith, em, magnitude-small w _ _ _ ch (s .pre .1)) in
+    let fb : SFits w64 (pos (c .magnitude2 .result)) = sfits64 9_000_000_000_000 zb tt in
+    fb
 
--- src/lib.rt:88:36
-slice-aggregate-write-answer : tie.Need-slice-aggregate-write-answer
-slice-aggregate-write-answer c = search needs
-
--- src/lib.rt:88:43
-slice-aggregate-write-answer-2 : tie.Need-slice-aggregate-write-answer-2
-slice-aggregate-write-answer-2 c = search needs
-
--- src/lib.rt:88:52
-slice-aggregate-write-answer-3 : tie.Need-slice-aggregate-write-answer-3
-slice-aggregate-write-answer-3 c = search needs
-
--- src/lib.rt:88:13
 write-answer-requires : tie.Need-write-answer-requires
-write-answer-requires c κs = ?
+write-answer-requires c κs =
+    let s = c .before .before .before .before .before .before .before .before .before .before .before .before .before .before .before .before .before .before .before .before .before .before .before .before .before in
+    let a = s .args in
+    let w = placing (a .pair .p) (a .pair .q) (c .before .before .before .before .before .before .before .before .before .before .before .before .before .before .before .before .before .before .before .before .before .before .accept .ensures) (s .pre .1) (c .before .before .before .before .before .before .before .before .before .before .before .before .before .before .before .before .before .before .before .before .checking .given .1) (s .pre .0 .standing) in
+    let n = c .before .before .before .before .before .before .before .before .before .before .before .before .months-of .ensures in
+    let k : length (c .before .before .before .before .before .before .before .before .before .before .before .before .before .before .plan-column .last .1 .1 .1 .1 .1 .0) ≡ 601 = c .before .before .before .before .before .before .before .before .before .before .before .before .before .before .plan-column .kept .1 .1 .1 .1 .1 .0 in
+    let i : length (c .before .before .before .before .before .before .before .before .before .add-back .last .1 .1 .0) ≡ 601 = c .before .before .before .before .before .before .before .before .before .add-back .kept .1 .1 .0 in
+    (omega arith, omega (arith, n, k, span-kept w .fTo), omega (arith, n, i, span-kept w .fTo), omega (arith, n, span-kept w .fTo))
 
--- src/lib.rt:90:27
-enum-known-checking-2 : tie.Need-enum-known-checking-2
-enum-known-checking-2 c = search needs
-
--- src/lib.rt:90:39
-refuse-requires : tie.Need-refuse-requires
-refuse-requires c κs = search needs
-
--- src/lib.rt:45:1
-same-length : tie.Need-same-length
-same-length c = search needs
-
--- src/lib.rt:45:1
 returns : tie.Need-returns
-returns c = ?
+returns c = λ x y.
+    let s = c .before .before .before .before .before .before .before .before .before .before .before .before .before .before .before .before .before .before .before .before .before .before .before .before .before .before .before .before in
+    let a = s .args in
+    let w = placing (a .pair .p) (a .pair .q) (c .before .before .before .before .before .before .before .before .before .before .before .before .before .before .before .before .before .before .before .before .before .before .before .before .before .accept .ensures) (s .pre .1) (c .before .before .before .before .before .before .before .before .before .before .before .before .before .before .before .before .before .before .before .before .before .before .before .checking .given .1) y in
+    let r = c .before .before .before .before .before .before .before .before .before .before .before .before .before .before .before .before .before .before .before .before .place-rows in
+    let ch = ap checkingAnswer (sym (c .before .before .before .before .before .before .before .before .before .before .before .before .before .before .before .before .before .before .before .before .before .before .before .checking .given .1)) ∙ c .before .before .before .before .before .before .before .before .before .before .before .before .before .before .before .before .before .before .before .before .before .before .before .before .before .accept .ensures .answer x y in
+    let fl : SFits w64 (c .before .before .before .before .before .before .before .before .before .before .before .before .before .before .before .before .before .before .before .before .before .before .before .checking .given .0 .0 .0) = sfits64 600 (length-small w _ _ _ ch (s .pre .1)) tt in
+    let el = c .before .before .before .before .before .before .before .before .before .magnitude .ensures ∙ ap natAbs (toZ-ofZ fl) in
+    let za : natAbs (pos (c .before .before .before .before .before .before .before .before .before .magnitude .result)) ≤ 600 = omega (arith, el, length-small w _ _ _ ch (s .pre .1)) in
+    let fa : SFits w64 (pos (c .before .before .before .before .before .before .before .before .before .magnitude .result)) = sfits64 600 za tt in
+    let ch = ap checkingAnswer (sym (c .before .before .before .before .before .before .before .before .before .before .before .before .before .before .before .before .before .before .before .before .before .before .before .checking .given .1)) ∙ c .before .before .before .before .before .before .before .before .before .before .before .before .before .before .before .before .before .before .before .before .before .before .before .before .before .accept .ensures .answer x y in
+    let fm : SFits w64 (c .before .before .before .before .before .before .before .before .before .before .before .before .before .before .before .before .before .before .before .before .before .before .before .checking .given .0 .1 .0 .0) = sfits64 9_000_000_000_000 (magnitude-small w _ _ _ ch (s .pre .1)) tt in
+    let em = c .before .before .before .before .before .before .before .magnitude2 .ensures ∙ ap natAbs (toZ-ofZ fm) in
+    let zb : natAbs (pos (c .before .before .before .before .before .before .before .magnitude2 .result)) ≤ 9_000_000_000_000 = omega (arith, em, magnitude-small w _ _ _ ch (s .pre .1)) in
+    let fb : SFits w64 (pos (c .before .before .before .before .before .before .before .magnitude2 .result)) = sfits64 9_000_000_000_000 zb tt in
+    let n = c .before .before .before .before .before .before .before .before .before .before .before .before .before .before .before .months-of .ensures in
+    let rest = subst (λ k. (m : ℕ) → m < k → getD (c .before .before .before .before .before .before .before .before .before .before .before .before .add-back .last .1 .1 .0) m (pos 0) ≡ restFrom (a .factors .now) (c .before .before .before .before .before .before .before .before .before .before .before .before .before .before .before .before .before .plan-column .last .1 .1 .1 .1 .1 .0) k m) n (c .before .before .before .before .before .before .before .before .before .before .before .before .add-back .ensures) in
+    let hd : List ℤ = toZ w64 (c .before .before .before .before .before .before .before .before .before .magnitude .result) ∷ toZ w64 (c .before .before .before .before .before .before .before .magnitude2 .result) ∷ [] in
+    let e = ap (λ k. answerCall hd (c .before .before .before .before .before .before .before .before .before .before .before .before .before .before .before .before .before .plan-column .last .1 .1 .1 .1 .1 .0) (c .before .before .before .before .before .before .before .before .before .before .before .before .add-back .last .1 .1 .0) k (a .out .now)) n ∙ answer-is w (r .last .0) (r .ensures) _ (zeros-empty 601) refl (c .before .before .before .before .before .before .before .before .before .before .before .before .before .before .before .before .before .plan-column .ensures) (c .before .before .before .before .before .before .before .before .before .before .before .before .add-back .last .1 .1 .0) rest hd (toZ-ofZ fa ∙ ap pos (el ∙ length-is w _ _ _ ch (s .pre .1))) (toZ-ofZ fb ∙ ap pos (em ∙ magnitude-is w _ _ _ ch (s .pre .1))) (a .out .now) in
+    (c .before .before .write-answer .ensures .0 ∙ ap (λ o. o .buffer) e, c .before .before .write-answer .ensures .1 ∙ ap (λ o. o .answer) e)
 
--- src/lib.rt:45:1
-same-length-2 : tie.Need-same-length-2
-same-length-2 c = search needs
-
--- src/lib.rt:45:1
 returns-2 : tie.Need-returns-2
-returns-2 c = ?
+returns-2 c = λ x y.
+    let s = c .before .before .before .before .before .before .before .before .before .before in
+    let a = s .args in
+    let e = refused-into (a .pair .p) (a .pair .q) (c .before .before .before .before .before .before .before .accept .ensures) (s .pre .1) (c .before .before .before .before .before .checking2 .given .1) y (a .out .now) in
+    (c .before .before .refuse .ensures .0 ∙ ap (λ o. o .buffer) e, c .before .before .refuse .ensures .1 ∙ ap (λ o. o .answer) e)
 
 pub answer-spec : {M : Type 1} → statement M
 answer-spec =
     tie.close
     (tie.spec
     accept-requires
-    enum-known-checking
+    (λ c. search needs)
     place-rows-requires
-    slice-aggregate-plan-column
+    (λ c. search needs)
     plan-column-requires
     months-of-requires
-    slice-aggregate-add-back
-    slice-aggregate-add-back-2
+    (λ c. search needs)
+    (λ c. search needs)
     add-back-requires
-    magnitude-requires
+    (λ c κs. search needs)
     cast-a
-    magnitude-requires-2
+    (λ c κs. search needs)
     cast-b
-    slice-aggregate-write-answer
-    slice-aggregate-write-answer-2
-    slice-aggregate-write-answer-3
+    (λ c. search needs)
+    (λ c. search needs)
+    (λ c. search needs)
     write-answer-requires
-    enum-known-checking-2
-    refuse-requires
-    same-length
+    (λ c. search needs)
+    (λ c κs. search needs)
+    (λ c. search needs)
     returns
-    same-length-2
+    (λ c. search needs)
     returns-2)

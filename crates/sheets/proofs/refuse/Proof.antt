@@ -2,7 +2,9 @@ use borrow.Author.Needs.{needs}
 use lib.IntN.{pos}
 use mathlib.Core.Path.{_∙_, _≡_, ap}
 use native.Mathlib.Omega.{arith}
-use Rattle.sheets.proofs.Refusals.{refusal-into}
+use mir.Syntax.{w64}
+use mir.Val.{toZ}
+use Rattle.sheets.proofs.Refusals.{number-read, refusal-into}
 use Rattle.sheets.proofs.refuse.Statement.{statement}
 use Rattle.sheets.proofs.refuse.Tie as tie
 
@@ -12,7 +14,7 @@ write-refusal-requires c κs = omega arith
 returns : tie.Need-returns
 returns c =
     let s = c .before .before .before .before .before .before .before in
-    let e = refusal-into _ _ (ap pos (c .before .before .before .before .before .number-of .ensures)) (s .args .out .now) in
+    let e = refusal-into _ _ (ap (toZ w64) (c .before .before .before .before .before .number-of .ensures) ∙ number-read (s .args .refusal)) (s .args .out .now) in
     (c .before .before .write-refusal .ensures .0 ∙ ap (λ o. o .buffer) e, c .before .before .write-refusal .ensures .1 ∙ ap (λ o. o .answer) e)
 
 pub refuse-spec : {M : Type 1} → statement M
