@@ -182,7 +182,8 @@ pub fn stepped(
     }
 }
 
-fn parties_ok(pair: Pair) -> bool
+// Two parties.
+pub fn parties_ok(pair: Pair) -> bool
     ensures { λ r. ⌜ r ≡ pairOk (pair .p) (pair .q) ⌝ }
 {
     tables::party_ok(pair.p) & tables::party_ok(pair.q)

@@ -2,3 +2,4 @@
 pub mod Accepted
 pub mod AnswerTexts
 pub mod Refusals
+pub mod SheetReads

@@ -1,2 +1,3 @@
 -- The sheet's answers.
 pub mod Answers
+pub mod Held

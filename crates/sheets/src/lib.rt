@@ -1,6 +1,8 @@
 // The sheet as a call on bytes.
 ghost use mathlib.Core.Path.{_≡_};
-ghost use Prim.Native.Nat.{suc, _≤_};
+ghost use mathlib.Core.Bool.{_&&_};
+ghost use Prim.Native.Nat.{min, suc, _≤_};
+ghost use lib.Dec.{leb};
 ghost use lib.IntN.{natAbs, pos};
 ghost use lib.ListN.{length};
 ghost use Rattle.language.specs.Calls.{pairOk};
@@ -9,6 +11,7 @@ ghost use Rattle.language.specs.Text.Trees.{Delay, Plan};
 ghost use Rattle.rules.specs.Answers.{givenOf};
 ghost use Rattle.rules.specs.Standing.{Standing, Stands};
 ghost use Rattle.sheets.specs.Answers.{answerInto, refusalInto};
+ghost use Rattle.sheets.specs.Held.{SheetHeld};
 ghost use Rattle.tables.specs.Lookup.{KeptSpan};
 ghost use Rattle.text.specs.Refusals.{numberOf};
 ghost use Rattle.writer.specs.Answers.{writtenAnswer};
@@ -88,5 +91,89 @@ pub fn answer(
             printing::write_answer(&head, &column, &rest, months, out)
         }
         Checking::Refused(refusal) => refuse(refusal, out),
+    }
+}
+
+// Whether the lent lists hold all of a sheet's table; one that they do not hold breaks a rule.
+fn fits(sheet: Sheet) -> bool
+    ensures { λ r. ⌜ r ≡ leb (sheet .factors) 601 && (leb (sheet .labels) 8 && leb (sheet .values) 5288) ⌝ }
+{
+    (sheet.factors <= 601) & ((sheet.labels <= 8) & (sheet.values <= 5288))
+}
+
+// How many settings to look at: nine are as many too many as more would be.
+fn settings_of(sheet: Sheet) -> usize
+    ensures { λ r. ⌜ r ≡ min (sheet .days) 9 ⌝ }
+{
+    if sheet.days <= 9 { sheet.days } else { 9 }
+}
+
+// The answer of a sheet that was read.
+fn answer_read(
+    input: &[u8],
+    sheet: Sheet,
+    days: &[i64],
+    factors: &[i64],
+    bounds: &[i64],
+    values: &[i64],
+    out: &mut [u8],
+) -> Written
+    requires { ⌜ SheetHeld (now input) (now days) (now factors) (now bounds) (now values) sheet ⌝ }
+    ensures { λ r. ⌜ (now (out .exit) ≡ sheetCall (now (input .entry)) (now (out .entry)) .buffer)
+        × (writtenAnswer r ≡ sheetCall (now (input .entry)) (now (out .entry)) .answer) ⌝ }
+{
+    let mut nodes = [0i64; 2560];
+    let from = sheet.from;
+    let to = sheet.to;
+    let reading = text::read_plan(&input[from..to], &mut nodes);
+    match reading {
+        Reading::Nodes(count) => {
+            if fits(sheet) {
+                let n = settings_of(sheet);
+                let months = sheet.factors;
+                let labels = sheet.labels;
+                let places = sheet.values;
+                let h = sheet.h;
+                let f = sheet.f;
+                let p = sheet.p;
+                let q = sheet.q;
+                let pair = Pair { p, q };
+                let asked = payments::parties_ok(pair);
+                answer(
+                    &mut nodes,
+                    count,
+                    &days[0..n],
+                    Span { h, f },
+                    &factors[0..months],
+                    &bounds[0..labels],
+                    &values[0..places],
+                    pair,
+                    asked,
+                    out,
+                )
+            } else {
+                refuse(Refusal::Table, out)
+            }
+        }
+        Reading::Refused(refusal) => refuse(refusal, out),
+    }
+}
+
+// The lines of a sheet's answer, or its one line `refused,` with the number, from the first byte of `out` on.
+pub fn sheet(input: &[u8], out: &mut [u8]) -> Written
+    ensures { λ r. ⌜ (now (out .exit) ≡ sheetCall (now (input .entry)) (now (out .entry)) .buffer)
+        × (writtenAnswer r ≡ sheetCall (now (input .entry)) (now (out .entry)) .answer) ⌝ }
+{
+    if 60_000 < input.len() {
+        return refuse(Refusal::TooLong, out);
+    }
+    let mut days = [0i64; 9];
+    let mut factors = [0i64; 601];
+    let mut bounds = [0i64; 8];
+    let mut values = [0i64; 5288];
+    let sheeting = lines::read_sheet(input, &mut days, &mut factors, &mut bounds, &mut values);
+    match sheeting {
+        Sheeting::Read(held) => answer_read(input, held, &days, &factors, &bounds, &values, out),
+        Sheeting::Fault => refuse(Refusal::NotOfForm, out),
     }
 }
