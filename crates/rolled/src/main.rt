@@ -1,16 +1,5 @@
 // Document 01's plan rolled forward three months: the pence paid from party 1 to party 2 in each, and the plan that is then held.
-ghost use Rattle.io.specs.Counts.{Counts};
 use payments::Stepping;
-
-fn within(bytes: usize, text: &[u8]) -> usize
-    ensures { λ r. ⌜ Counts r (now (text .entry)) ⌝ }
-{
-    if bytes < text.len() {
-        bytes
-    } else {
-        text.len()
-    }
-}
 
 fn print_pence(pence: i64) {
     if pence < 0 {
@@ -22,7 +11,7 @@ fn print_pence(pence: i64) {
 fn print_step(pence: i64, text: &[u8], bytes: usize) {
     print_pence(pence);
     io::write_all(1, b" ");
-    let n = within(bytes, text);
+    let n = outputs::within(bytes, text);
     io::write_all(1, &text[..n]);
     io::write_all(1, b"\n");
 }
@@ -35,7 +24,7 @@ fn print_refused(number: u8) {
 
 // The step of the plan in the first bytes of `held`, printed; how many bytes of `out` are the plan for tomorrow.
 fn roll(held: &[u8], bytes: usize, today: i64, out: &mut [u8]) -> usize {
-    let n = within(bytes, held);
+    let n = outputs::within(bytes, held);
     let stepping = payments::step(
         &held[..n],
         &[2],

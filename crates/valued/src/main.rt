@@ -1,17 +1,6 @@
 // Document 01's plan compiled to its payoff, the payoff cut, and what both are worth to the pair 1, 2 in millionths of a penny.
-ghost use Rattle.io.specs.Counts.{Counts};
 use payoff::Evaluating;
 use payoff::Writing;
-
-fn within(bytes: usize, text: &[u8]) -> usize
-    ensures { λ r. ⌜ Counts r (now (text .entry)) ⌝ }
-{
-    if bytes < text.len() {
-        bytes
-    } else {
-        text.len()
-    }
-}
 
 fn print_refused(number: u8) {
     io::write_all(1, b"refused,");
@@ -23,7 +12,7 @@ fn print_refused(number: u8) {
 fn print_text(writing: Writing, text: &[u8]) -> usize {
     match writing {
         Writing::Bytes(bytes) => {
-            let n = within(bytes, text);
+            let n = outputs::within(bytes, text);
             io::write_all(1, &text[..n]);
             io::write_all(1, b"\n");
             n
@@ -41,7 +30,7 @@ fn compile(plan: &[u8], out: &mut [u8]) -> usize {
 }
 
 fn cut(uncut: &[u8], bytes: usize, out: &mut [u8]) -> usize {
-    let n = within(bytes, uncut);
+    let n = outputs::within(bytes, uncut);
     let writing = payoff::cut(&uncut[..n], out);
     print_text(writing, out)
 }
@@ -56,7 +45,7 @@ fn print_value(value: i64) {
 
 // What the payoff in the first bytes is worth, `month` being the month now.
 fn evaluate(text: &[u8], bytes: usize, month: i64) {
-    let n = within(bytes, text);
+    let n = outputs::within(bytes, text);
     let evaluating = payoff::evaluate(
         &text[..n],
         &[2],

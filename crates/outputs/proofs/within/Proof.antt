@@ -2,8 +2,8 @@
 use native.Mathlib.Omega.{arith}
 use lib.Seq.{length-take-le}
 use mathlib.Core.Path.{sym}
-use Rattle.valued.proofs.within.Statement.{statement}
-use Rattle.valued.proofs.within.Tie as tie
+use Rattle.outputs.proofs.within.Statement.{statement}
+use Rattle.outputs.proofs.within.Tie as tie
 
 returns : tie.Need-returns
 returns c = (omega arith, sym (length-take-le _ _ (omega arith)))
