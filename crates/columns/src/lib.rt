@@ -67,7 +67,7 @@ pub fn plan_column(
             add_penny(nodes, root, pair, weight, column, at);
         }
         PlanLetter::Scale => {
-            let a = amounts::operand(nodes, values, root, at + 1, 512);
+            let a = amounts::amount_value(nodes, values, root, at + 1, 512);
             let product = integers::product(weight, a);
             match product {
                 Bounded::Within(heavier) => {

@@ -42,7 +42,7 @@ pub fn plan_pays(
         PlanLetter::Nothing => Pence(0),
         PlanLetter::Transfer => transfer::transfer(nodes, root, month, pair, at),
         PlanLetter::Scale => {
-            let a = amounts::operand(nodes, values, root, at + 1, 512);
+            let a = amounts::amount_value(nodes, values, root, at + 1, 512);
             let x = plan_pays(
                 nodes,
                 values,

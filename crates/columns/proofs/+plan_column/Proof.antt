@@ -14,7 +14,7 @@ use borrow.Fn.PlainCycle.{Measures, is, falls, and}
 use Rattle.columns.proofs.plan_column.Reads as plan-column
 use Rattle.columns.proofs.plan_column.Kinds as plan-column-kinds
 use Rattle.columns.proofs.+plan_column.Lts-plan_column as plan-column-lts
-use Rattle.amounts.proofs.operand.Reads as operand-reads
+use Rattle.amounts.proofs.amount_value.Reads as amount-value-reads
 use Rattle.amounts.proofs.wait.wait_for.Reads as wait-for-reads
 use Rattle.columns.proofs.add_penny.Reads as add-penny-reads
 use Rattle.integers.proofs.later.Reads as later-reads
@@ -35,7 +35,7 @@ abbrev plan-column-below : ℕ → In 3 plan-column-kinds.ps
 plan-column-below t = and 3 plan-column-kinds.ps (falls 3 plan-column-kinds.ps _<_ μ-plan-column t) plan-column.Pre
 
 abbrev plan-column-calls : ℕ → plan-column-lts.Claims
-plan-column-calls t = (letter-reads.Asked, letter-reads.Learnt, add-penny-reads.Asked, add-penny-reads.Learnt, operand-reads.Asked, operand-reads.Learnt, product-reads.Asked, product-reads.Learnt, link-reads.Asked, link-reads.Learnt, plan-column-below t, plan-column.Post, delay-reads.Asked, delay-reads.Learnt, later-reads.Asked, later-reads.Learnt, wait-for-reads.Asked, wait-for-reads.Learnt)
+plan-column-calls t = (letter-reads.Asked, letter-reads.Learnt, add-penny-reads.Asked, add-penny-reads.Learnt, amount-value-reads.Asked, amount-value-reads.Learnt, product-reads.Asked, product-reads.Learnt, link-reads.Asked, link-reads.Learnt, plan-column-below t, plan-column.Post, delay-reads.Asked, delay-reads.Learnt, later-reads.Asked, later-reads.Learnt, wait-for-reads.Asked, wait-for-reads.Learnt)
 
 plan-column-letter-requires : (t : ℕ) → plan-column-lts.Need-letter-requires (plan-column-calls t) (plan-column-at t) plan-column.Post
 plan-column-letter-requires t c κs =
@@ -48,14 +48,14 @@ plan-column-add-penny-requires t c κs =
     let n = node.column-node (h .2) (h .3) (c .before .before .before .letter .ensures) (c .before .enum-told2 .given .1) in
     (n .inside, h .0, h .1, node.penny-fits n (omega (arith, h .0 .within, natOf-known (c .before .before .before .before .args .root .0) (h .0 .known))))
 
-plan-column-add-operand : (t : ℕ) → plan-column-lts.Need-add-operand (plan-column-calls t) (plan-column-at t) plan-column.Post
-plan-column-add-operand t c =
+plan-column-add-amount-value : (t : ℕ) → plan-column-lts.Need-add-amount-value (plan-column-calls t) (plan-column-at t) plan-column.Post
+plan-column-add-amount-value t c =
     let h = c .before .before .before .pre .1 in
     let n = node.column-node (h .2) (h .3) (c .before .before .letter .ensures) (c .enum-told3 .given .1) in
     record { fits = omega (arith, n .inside) }
 
-plan-column-operand-requires : (t : ℕ) → plan-column-lts.Need-operand-requires (plan-column-calls t) (plan-column-at t) plan-column.Post
-plan-column-operand-requires t c κs =
+plan-column-amount-value-requires : (t : ℕ) → plan-column-lts.Need-amount-value-requires (plan-column-calls t) (plan-column-at t) plan-column.Post
+plan-column-amount-value-requires t c κs =
     let h = c .before .before .before .pre .1 in
     let n = node.column-node (h .2) (h .3) (c .before .before .letter .ensures) (c .enum-told3 .given .1) in
     let a = node.scale-amount n in
@@ -65,7 +65,7 @@ plan-column-product-requires : (t : ℕ) → plan-column-lts.Need-product-requir
 plan-column-product-requires t c κs =
     let h = c .before .before .before .before .pre .1 in
     let n = node.column-node (h .2) (h .3) (c .before .before .before .letter .ensures) (c .before .enum-told3 .given .1) in
-    node.scale-factors n (c .operand .ensures)
+    node.scale-factors n (c .amount-value .ensures)
 
 plan-column-link-requires : (t : ℕ) → plan-column-lts.Need-link-requires (plan-column-calls t) (plan-column-at t) plan-column.Post
 plan-column-link-requires t c κs =
@@ -83,7 +83,7 @@ plan-column-plan-column-requires : (t : ℕ) → plan-column-lts.Need-plan-colum
 plan-column-plan-column-requires t c κs =
     let h = c .before .before .before .before .before .before .before .before .before .before .pre .1 in
     let n = node.column-node (h .2) (h .3) (c .before .before .before .before .before .before .before .before .before .letter .ensures) (c .before .before .before .before .before .before .before .enum-told3 .given .1) in
-    let w = node.scale-walks n (c .before .before .before .before .before .before .operand .ensures) _ (sym (c .before .before .before .product2 .given .1) ∙ c .before .before .before .before .before .product .ensures) (c .before .link .ensures) in
+    let w = node.scale-walks n (c .before .before .before .before .before .before .amount-value .ensures) _ (sym (c .before .before .before .product2 .given .1) ∙ c .before .before .before .before .before .product .ensures) (c .before .link .ensures) in
     (omega (arith, n .some), (h .0, h .1, w .0, w .1))
 
 plan-column-delay-requires : (t : ℕ) → plan-column-lts.Need-delay-requires (plan-column-calls t) (plan-column-at t) plan-column.Post
@@ -226,13 +226,13 @@ plan-column-returns-3 : (t : ℕ) → plan-column-lts.Need-returns-3 (plan-colum
 plan-column-returns-3 t c =
     let h = c .before .before .before .before .before .before .before .before .before .before .before .before .pre .1 in
     let n = node.column-node (h .2) (h .3) (c .before .before .before .before .before .before .before .before .before .before .before .letter .ensures) (c .before .before .before .before .before .before .before .before .before .enum-told3 .given .1) in
-    node.scale-arm n (c .before .before .before .before .before .before .before .before .operand .ensures) _ (sym (c .before .before .before .before .before .product2 .given .1) ∙ c .before .before .before .before .before .before .before .product .ensures) (c .before .before .before .link .ensures) (signOf (c .before .before .before .before .before .before .before .before .before .before .before .before .args .pair .p) (c .before .before .before .before .before .before .before .before .before .before .before .before .args .pair .q)) (unit-one _ _) (c .before .plan-column .ensures)
+    node.scale-arm n (c .before .before .before .before .before .before .before .before .amount-value .ensures) _ (sym (c .before .before .before .before .before .product2 .given .1) ∙ c .before .before .before .before .before .before .before .product .ensures) (c .before .before .before .link .ensures) (signOf (c .before .before .before .before .before .before .before .before .before .before .before .before .args .pair .p) (c .before .before .before .before .before .before .before .before .before .before .before .before .args .pair .q)) (unit-one _ _) (c .before .plan-column .ensures)
 
 plan-column-returns-4 : (t : ℕ) → plan-column-lts.Need-returns-4 (plan-column-calls t) (plan-column-at t) plan-column.Post
 plan-column-returns-4 t c =
     let h = c .before .before .before .before .before .before .before .pre .1 in
     let n = node.column-node (h .2) (h .3) (c .before .before .before .before .before .before .letter .ensures) (c .before .before .before .before .enum-told3 .given .1) in
-    node.beyond-arm n (c .before .before .before .operand .ensures) (sym (c .enum-told4 .given .1) ∙ c .before .before .product .ensures) (signOf (c .before .before .before .before .before .before .before .args .pair .p) (c .before .before .before .before .before .before .before .args .pair .q)) (unit-one _ _)
+    node.beyond-arm n (c .before .before .before .amount-value .ensures) (sym (c .enum-told4 .given .1) ∙ c .before .before .product .ensures) (signOf (c .before .before .before .before .before .before .before .args .pair .p) (c .before .before .before .before .before .before .before .args .pair .q)) (unit-one _ _)
 
 plan-column-returns-5 : (t : ℕ) → plan-column-lts.Need-returns-5 (plan-column-calls t) (plan-column-at t) plan-column.Post
 plan-column-returns-5 t c =
@@ -273,8 +273,8 @@ plan-column-part t =
     (λ c. search needs)
     (plan-column-add-penny-requires t)
     (λ c. search needs)
-    (plan-column-add-operand t)
-    (plan-column-operand-requires t)
+    (plan-column-add-amount-value t)
+    (plan-column-amount-value-requires t)
     (plan-column-product-requires t)
     (λ c. search needs)
     (plan-column-link-requires t)

@@ -10,7 +10,7 @@ use borrow.Fn.PlainCycle.{Measures, is, falls, and}
 use Rattle.pays.proofs.plan_pays.Reads as plan-pays
 use Rattle.pays.proofs.plan_pays.Kinds as plan-pays-kinds
 use Rattle.pays.proofs.+plan_pays.Lts-plan_pays as plan-pays-lts
-use Rattle.amounts.proofs.operand.Reads as operand-reads
+use Rattle.amounts.proofs.amount_value.Reads as amount-value-reads
 use Rattle.amounts.proofs.wait.wait_for.Reads as wait-for-reads
 use Rattle.integers.proofs.later.Reads as later-reads
 use Rattle.integers.proofs.plus.Reads as plus-reads
@@ -32,7 +32,7 @@ abbrev plan-pays-below : ℕ → In 2 plan-pays-kinds.ps
 plan-pays-below t = and 2 plan-pays-kinds.ps (falls 2 plan-pays-kinds.ps _<_ μ-plan-pays t) plan-pays.Pre
 
 abbrev plan-pays-calls : ℕ → plan-pays-lts.Claims
-plan-pays-calls t = (letter-reads.Asked, letter-reads.Learnt, transfer-reads.Asked, transfer-reads.Learnt, operand-reads.Asked, operand-reads.Learnt, link-reads.Asked, link-reads.Learnt, plan-pays-below t, plan-pays.Post, times-reads.Asked, times-reads.Learnt, delay-reads.Asked, delay-reads.Learnt, later-reads.Asked, later-reads.Learnt, plus-reads.Asked, plus-reads.Learnt, wait-for-reads.Asked, wait-for-reads.Learnt)
+plan-pays-calls t = (letter-reads.Asked, letter-reads.Learnt, transfer-reads.Asked, transfer-reads.Learnt, amount-value-reads.Asked, amount-value-reads.Learnt, link-reads.Asked, link-reads.Learnt, plan-pays-below t, plan-pays.Post, times-reads.Asked, times-reads.Learnt, delay-reads.Asked, delay-reads.Learnt, later-reads.Asked, later-reads.Learnt, plus-reads.Asked, plus-reads.Learnt, wait-for-reads.Asked, wait-for-reads.Learnt)
 
 plan-pays-letter-requires : (t : ℕ) → plan-pays-lts.Need-letter-requires (plan-pays-calls t) (plan-pays-at t) plan-pays.Post
 plan-pays-letter-requires t c κs =
@@ -44,15 +44,15 @@ plan-pays-transfer-requires t c κs =
     let h = c .before .before .before .pre .1 in
     (plan-inside _ _ _ (h .3), h .0, h .1, h .2)
 
-plan-pays-add-operand : (t : ℕ) → plan-pays-lts.Need-add-operand (plan-pays-calls t) (plan-pays-at t) plan-pays.Post
-plan-pays-add-operand t c =
+plan-pays-add-amount-value : (t : ℕ) → plan-pays-lts.Need-add-amount-value (plan-pays-calls t) (plan-pays-at t) plan-pays.Post
+plan-pays-add-amount-value t c =
     let h = c .before .before .before .pre .1 in
     let l = c .before .before .letter .ensures in
     let n = plan-node _ _ _ _ _ _ _ (h .3) (h .4) l (c .enum-told3 .given .1) in
     record { fits = omega (arith, n .inside) }
 
-plan-pays-operand-requires : (t : ℕ) → plan-pays-lts.Need-operand-requires (plan-pays-calls t) (plan-pays-at t) plan-pays.Post
-plan-pays-operand-requires t c κs =
+plan-pays-amount-value-requires : (t : ℕ) → plan-pays-lts.Need-amount-value-requires (plan-pays-calls t) (plan-pays-at t) plan-pays.Post
+plan-pays-amount-value-requires t c κs =
     let h = c .before .before .before .pre .1 in
     let l = c .before .before .letter .ensures in
     let n = plan-node _ _ _ _ _ _ _ (h .3) (h .4) l (c .enum-told3 .given .1) in
@@ -86,7 +86,7 @@ plan-pays-times-requires t c κs =
     let h = c .before .before .before .before .before .before .pre .1 in
     let l = c .before .before .before .before .before .letter .ensures in
     let n = plan-node _ _ _ _ _ _ _ (h .3) (h .4) l (c .before .before .before .enum-told3 .given .1) in
-    parts.scale-small n (c .before .link .ensures) (c .before .before .operand .ensures) (c .plan-pays .ensures)
+    parts.scale-small n (c .before .link .ensures) (c .before .before .amount-value .ensures) (c .plan-pays .ensures)
 
 plan-pays-delay-requires : (t : ℕ) → plan-pays-lts.Need-delay-requires (plan-pays-calls t) (plan-pays-at t) plan-pays.Post
 plan-pays-delay-requires t c κs =
@@ -257,7 +257,7 @@ plan-pays-returns-3 t c =
     let h = c .before .before .before .before .before .before .before .pre .1 in
     let l = c .before .before .before .before .before .before .letter .ensures in
     let n = plan-node _ _ _ _ _ _ _ (h .3) (h .4) l (c .before .before .before .before .enum-told3 .given .1) in
-    arms.scale-arm n (c .before .before .link .ensures) (c .before .before .before .operand .ensures) (c .before .plan-pays .ensures) (c .times .ensures)
+    arms.scale-arm n (c .before .before .link .ensures) (c .before .before .before .amount-value .ensures) (c .before .plan-pays .ensures) (c .times .ensures)
 
 plan-pays-returns-4 : (t : ℕ) → plan-pays-lts.Need-returns-4 (plan-pays-calls t) (plan-pays-at t) plan-pays.Post
 plan-pays-returns-4 t c =
@@ -304,8 +304,8 @@ plan-pays-part t =
     (λ c. search needs)
     (plan-pays-transfer-requires t)
     (λ c. search needs)
-    (plan-pays-add-operand t)
-    (plan-pays-operand-requires t)
+    (plan-pays-add-amount-value t)
+    (plan-pays-amount-value-requires t)
     (plan-pays-link-requires t)
     (plan-pays-sub-plan-pays t)
     (plan-pays-plan-pays-requires t)
