@@ -21,7 +21,7 @@ use Rattle.rules.specs.declared.Checking.the-variants.{Accepted}
 abbrev pub accepting : Given → ℤ → Bool → Plan Delay → Answer Checked
 accepting g today callerOk x = acceptPlan g today callerOk x >>= λ y. got (checkedOf (g .table) y)
 
--- whatever plan stood in the first rows: its answer, and where it is accepted, numbers not below zero and itself with its open settings filled
+-- whatever plan stood in the first rows: its answer, in numbers not below zero, and where it is accepted, itself with its open settings filled
 pub record AcceptIs (g : Given) (today : ℤ) (callerOk : Bool) (count : ℕ) (before after : List ℤ) (r : Checking) : Type 0 where
   pub answer : (x : Plan Delay) → Standing before count x → checkingAnswer r ≡ accepting g today callerOk x
   pub filled : (l : Month) (m : Pence) → r ≡ Accepted l m → (x : Plan Delay) → Standing before count x → Standing after count (closed (fill (settingAt (g .settings)) x))
