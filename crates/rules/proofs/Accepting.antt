@@ -27,7 +27,7 @@ use Rattle.nodes.specs.Found.{planAt}
 use Rattle.nodes.specs.Table.{natOf}
 use Rattle.rules.proofs.Filling.{fill-formed, set-is, stands-filled, walked}
 use Rattle.rules.specs.Accepting.{AcceptIs, accepting}
-use Rattle.rules.specs.Answers.{checkingAnswer, givenOf}
+use Rattle.rules.specs.Answers.{Natural, checkingAnswer, givenOf}
 use Rattle.rules.specs.Measured.{InTable, checkedOf, measuredBy}
 use Rattle.rules.specs.declared.Checking.{Checking}
 use Rattle.rules.specs.Standing.{Standing, Stands}
@@ -107,7 +107,7 @@ never-both k e = let z : _≡_ {A = ℕ} 0 1 = cc in absurd (omega arith)
 
 module _ (g : Given) (today : ℤ) (ok : Bool) (count : ℕ) (before after : List ℤ) where
   pub refused-is : (k : Refusal) → ((x : Plan Delay) → Standing before count x → checkingAnswer (Refused k) ≡ accepting g today ok x) → AcceptIs g today ok count before after (Refused k)
-  refused-is k h = record { answer = h; filled = λ l m e x s. never-both k e }
+  refused-is k h = record { answer = h; filled = λ l m e x s. never-both k e; natural = tt }
 
 -- the table was filled and the rules were gone through
 module _ (days : List ℤ) (h f : ℤ) (factors bounds values : List ℤ) (today : ℤ) (ok : Bool) (count : ℕ) (before after : List ℤ)
@@ -116,10 +116,11 @@ module _ (days : List ℤ) (h f : ℤ) (factors bounds values : List ℤ) (today
   pub measure-ready : (p : Stands before count) → PlanReady 32 after 0
   measure-ready p = walked (fill (settingAt days) (p .plan)) (stands-filled (p .standing) days e (filled .1)) (fill-formed (p .standing) days e) .safe
 
-  pub accept-is : {r : Checking} → checkingAnswer r ≡ measuredBy h f bounds (natOf today) (planAt natOf 32 after 0) → AcceptIs (givenOf days h f factors bounds values) today ok count before after r
-  accept-is a = record {
+  pub accept-is : {r : Checking} → checkingAnswer r ≡ measuredBy h f bounds (natOf today) (planAt natOf 32 after 0) → Natural r → AcceptIs (givenOf days h f factors bounds values) today ok count before after r
+  accept-is a z = record {
     answer = λ x s.
         a ∙ ap (measuredBy h f bounds (natOf today)) (walked (fill (settingAt days) x) (stands-filled s days e (filled .1)) (fill-formed s days e) .is)
         ∙ by-rules days h f factors bounds values today ok x t m e (sym (set-is s days) ∙ filled .0) (in-months f today (both-true (monthOk (tableOf h f factors bounds values) today) ok m .0) .1);
     filled = λ l n q x s. stands-filled s days e (filled .1);
+    natural = z;
   }

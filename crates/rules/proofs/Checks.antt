@@ -12,7 +12,7 @@ use Rattle.language.specs.Text.Plans.{readPlan}
 use Rattle.language.specs.Text.Reader.{readText}
 use Rattle.nodes.specs.Rows.{countOf, rows}
 use Rattle.rules.specs.Accepting.{AcceptIs}
-use Rattle.rules.specs.Answers.{checkingAnswer}
+use Rattle.rules.specs.Answers.{Natural, checkingAnswer}
 use Rattle.rules.specs.Standing.{Standing, Stands}
 use Rattle.rules.specs.declared.Checking.{Checking}
 use Rattle.rules.specs.declared.Checking.the-variants.{Refused}
@@ -31,10 +31,10 @@ module _ (text : List ℕ) where
     pub read-stands : Stands nodes n
     read-stands = record { plan = plan .plan; standing = read-standing }
 
-    pub check-accepts : (g : Given) (today : ℤ) {after : List ℤ} {r : Checking} → AcceptIs g today true n nodes after r → checkingAnswer r ≡ checkCall text g today
+    pub check-accepts : (g : Given) (today : ℤ) {after : List ℤ} {r : Checking} → AcceptIs g today true n nodes after r → (checkingAnswer r ≡ checkCall text g today) × Natural r
     unfolding checkCall
-    check-accepts g today h = h .answer (plan .plan) read-standing ∙ rw (plan .is) refl
+    check-accepts g today h = (h .answer (plan .plan) read-standing ∙ rw (plan .is) refl, h .natural)
 
-  pub check-refuses : (g : Given) (today : ℤ) (k : Refusal) → readText planForm text ≡ refused (numberOf k) → checkingAnswer (Refused k) ≡ checkCall text g today
+  pub check-refuses : (g : Given) (today : ℤ) (k : Refusal) → readText planForm text ≡ refused (numberOf k) → (checkingAnswer (Refused k) ≡ checkCall text g today) × Natural (Refused k)
   unfolding checkCall readPlan checkingAnswer
-  check-refuses g today k e = rw e refl
+  check-refuses g today k e = (rw e refl, tt)

@@ -25,7 +25,7 @@ use Rattle.measures.specs.declared.limit.Measured.{Measured}
 use Rattle.measures.specs.declared.limit.Measured.the-variants.{Beyond, Within}
 use Rattle.measures.specs.declared.reads.Reach.{Reach}
 use Rattle.nodes.specs.Table.{natOf}
-use Rattle.rules.specs.Answers.{checkingAnswer}
+use Rattle.rules.specs.Answers.{Natural, checkingAnswer}
 use Rattle.rules.specs.Measured.{InTable, measuredBy}
 use Rattle.rules.specs.declared.Checking.the-variants.{Accepted, Refused}
 use Rattle.tables.specs.Given.{tableOf}
@@ -93,8 +93,8 @@ module _ (today : ℤ) (s : Reach) (bounds : List ℤ) (x : Plan ℕ) (h : InTab
       late n o = rw (within-f (l .0) e c, sym (reads-is r) ∙ q, sym n ∙ o) refl
 
       module _ {k : Bool} (n : k ≡ knownInTime x) (o : k ≡ true) where
-        by-magnitude : (v : Bool) → planSmall (boundIn bounds) x ≡ v → {m : Measured} → m ≡ measured v (magnitudeOf (boundIn bounds) x) → (p : Pence) → m ≡ Within p → (planSmall (boundIn bounds) x ≡ true) × (natAbs (p .0) ≡ magnitudeOf (boundIn bounds) x)
-        by-magnitude true w d p g = (w, ap (λ y. natAbs (y .0)) (same (sym g ∙ d)))
+        by-magnitude : (v : Bool) → planSmall (boundIn bounds) x ≡ v → {m : Measured} → m ≡ measured v (magnitudeOf (boundIn bounds) x) → (p : Pence) → m ≡ Within p → (planSmall (boundIn bounds) x ≡ true) × (p .0 ≡ pos (magnitudeOf (boundIn bounds) x))
+        by-magnitude true w d p g = (w, ap (λ y. y .0) (same (sym g ∙ d)))
           where
             same : Within p ≡ Within (record { 0 = pos (magnitudeOf (boundIn bounds) x) }) → p ≡ record { 0 = pos (magnitudeOf (boundIn bounds) x) }
             same i = cc
@@ -110,11 +110,11 @@ module _ (today : ℤ) (s : Reach) (bounds : List ℤ) (x : Plan ℕ) (h : InTab
             differ : Beyond ≡ Within (record { 0 = pos (magnitudeOf (boundIn bounds) x) }) → _≡_ {A = ℕ} 0 1
             differ i = cc
 
-        pub accepted : {m : Measured} → m ≡ measuredPlan (boundIn bounds) x → (p : Pence) → m ≡ Within p → checkingAnswer (Accepted l p) ≡ answer
+        pub accepted : {m : Measured} → m ≡ measuredPlan (boundIn bounds) x → (p : Pence) → m ≡ Within p → (checkingAnswer (Accepted l p) ≡ answer) × Natural (Accepted l p)
         unfolding checkingAnswer meetsRules
         accepted d p g =
             let y = by-magnitude (planSmall (boundIn bounds) x) refl d p g in
-            rw (within-f (l .0) e c, sym (reads-is r) ∙ q, sym n ∙ o, y .0) (rw (e, y .1) refl)
+            rw (within-f (l .0) e c, sym (reads-is r) ∙ q, sym n ∙ o, y .0) (rw (e, y .1) (refl, (tt, tt)))
 
         pub too-great : {m : Measured} → m ≡ measuredPlan (boundIn bounds) x → m ≡ Beyond → checkingAnswer (Refused Magnitude) ≡ answer
         unfolding checkingAnswer meetsRules

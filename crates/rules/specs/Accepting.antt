@@ -11,7 +11,7 @@ use Rattle.language.specs.Calls.{Checked, Given, acceptPlan}
 use Rattle.language.specs.Rules.Settings.{closed, fill}
 use Rattle.language.specs.Rules.Table.{settingAt}
 use Rattle.language.specs.Text.Trees.{Delay, Plan}
-use Rattle.rules.specs.Answers.{checkingAnswer}
+use Rattle.rules.specs.Answers.{Natural, checkingAnswer}
 use Rattle.rules.specs.Measured.{checkedOf}
 use Rattle.rules.specs.Standing.{Standing}
 use Rattle.rules.specs.declared.Checking.{Checking}
@@ -21,7 +21,8 @@ use Rattle.rules.specs.declared.Checking.the-variants.{Accepted}
 abbrev pub accepting : Given → ℤ → Bool → Plan Delay → Answer Checked
 accepting g today callerOk x = acceptPlan g today callerOk x >>= λ y. got (checkedOf (g .table) y)
 
--- whatever plan stood in the first rows: its answer, and where it is accepted, itself with its open settings filled
+-- whatever plan stood in the first rows: its answer, in numbers not below zero, and where it is accepted, itself with its open settings filled
 pub record AcceptIs (g : Given) (today : ℤ) (callerOk : Bool) (count : ℕ) (before after : List ℤ) (r : Checking) : Type 0 where
   pub answer : (x : Plan Delay) → Standing before count x → checkingAnswer r ≡ accepting g today callerOk x
   pub filled : (l : Month) (m : Pence) → r ≡ Accepted l m → (x : Plan Delay) → Standing before count x → Standing after count (closed (fill (settingAt (g .settings)) x))
+  pub natural : Natural r

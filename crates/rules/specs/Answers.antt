@@ -1,5 +1,7 @@
 -- What checking answers, with document 01's numbers.
+use lib.Dec.{T}
 use lib.IntN.{natAbs, ℤ}
+use lib.Signed.{nonNeg}
 use mathlib.Core.List.{List}
 use Rattle.language.specs.Answer.{Answer, got, refused}
 use Rattle.language.specs.Calls.{Checked, Given}
@@ -12,6 +14,11 @@ use Rattle.text.specs.Refusals.{numberOf}
 unfoldable pub checkingAnswer : Checking → Answer Checked
 checkingAnswer (Accepted l m) = got (record { length = natAbs (l .0); magnitude = natAbs (m .0) })
 checkingAnswer (Refused k) = refused (numberOf k)
+
+-- an accepted plan's length and magnitude are not below zero
+abbrev pub Natural : Checking → Type 0
+Natural (Accepted l m) = T (nonNeg (l .0)) × T (nonNeg (m .0))
+Natural (Refused k) = Unit {0}
 
 -- the settings and the table that a call is given
 abbrev pub givenOf : List ℤ → ℤ → ℤ → List ℤ → List ℤ → List ℤ → Given

@@ -5,7 +5,7 @@ ghost use Rattle.measures.specs.Ready.{PlanReady};
 ghost use Rattle.nodes.specs.Found.{planAt};
 ghost use Rattle.nodes.specs.Table.{natOf};
 ghost use Rattle.rules.specs.Accepting.{AcceptIs};
-ghost use Rattle.rules.specs.Answers.{checkingAnswer, givenOf};
+ghost use Rattle.rules.specs.Answers.{Natural, checkingAnswer, givenOf};
 ghost use Rattle.rules.specs.Measured.{InTable, measuredBy};
 ghost use Rattle.rules.specs.Standing.{Stands};
 use integers::Month;
@@ -25,7 +25,7 @@ pub enum Checking {
 // Length 10, reads 11, known in time 7, magnitude 6.
 pub fn measure(nodes: &[i64; 2560], today: Month, reach: Reach, bounds: &[i64]) -> Checking
     requires { ⌜ PlanReady 32 (now nodes) 0 × InTable (today .0) (reach .h) (reach .f) (reach .labels) (now bounds) ⌝ }
-    ensures { λ r. ⌜ checkingAnswer r ≡ measuredBy (reach .h) (reach .f) (now (bounds .entry)) (natOf (today .0)) (planAt natOf 32 (now (nodes .entry)) 0) ⌝ }
+    ensures { λ r. ⌜ (checkingAnswer r ≡ measuredBy (reach .h) (reach .f) (now (bounds .entry)) (natOf (today .0)) (planAt natOf 32 (now (nodes .entry)) 0)) × Natural r ⌝ }
 {
     let length = measures::length::plan_length(nodes, 0, 32);
     let last = integers::later(today, length);
@@ -103,8 +103,8 @@ pub fn check(
     values: &[i64],
     today: i64,
 ) -> Checking
-    ensures { λ r. ⌜ checkingAnswer r ≡ checkCall (now (text .entry))
-        (givenOf (now (days .entry)) h f (now (factors .entry)) (now (bounds .entry)) (now (values .entry))) today ⌝ }
+    ensures { λ r. ⌜ (checkingAnswer r ≡ checkCall (now (text .entry))
+        (givenOf (now (days .entry)) h f (now (factors .entry)) (now (bounds .entry)) (now (values .entry))) today) × Natural r ⌝ }
 {
     let mut nodes = [0i64; 2560];
     let reading = text::read_plan(text, &mut nodes);

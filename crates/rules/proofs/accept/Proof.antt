@@ -71,7 +71,8 @@ returns c =
     let e = sym (c .before .before .before .before .before .before .before .before .settings-ok .ensures) ∙ c .before .before .before .before .before .before .before .if3 .taken in
     let u = subst (FillIs (a .days .now) (a .count) (a .nodes .now) (c .before .before .before .before .before .fill-rows .last .0)) (c .before .before .before .enum-told .given .1) (c .before .before .before .before .before .fill-rows .ensures) in
     accept-is (a .days .now) (a .span .h) (a .span .f) (a .factors .now) (a .bounds .now) (a .values .now) (a .today .0) (a .caller) (a .count) (a .nodes .now) (c .before .before .before .before .before .fill-rows .last .0) t m e u
-    (c .measure .ensures ∙ ap₂ (λ y z. measuredBy y z (a .bounds .now) (natOf (a .today .0)) (planAt natOf 32 (c .before .before .before .before .before .fill-rows .last .0) 0)) (toZ-ofZ h) (toZ-ofZ f))
+    (c .measure .ensures .0 ∙ ap₂ (λ y z. measuredBy y z (a .bounds .now) (natOf (a .today .0)) (planAt natOf 32 (c .before .before .before .before .before .fill-rows .last .0) 0)) (toZ-ofZ h) (toZ-ofZ f))
+    (c .measure .ensures .1)
 
 returns-2 : tie.Need-returns-2
 returns-2 c =

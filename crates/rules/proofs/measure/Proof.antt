@@ -35,7 +35,7 @@ returns c =
     let g : SFits w64 (l .result .0) = search needs in
     let x = planAt natOf 32 (s .args .nodes .now) 0 in
     let t = rw (toZ-ofZ f, toZ-ofZ g, l .ensures) at (i .if1 .taken) in
-    too-long (s .args .today .0) (s .args .reach) (s .args .bounds .now) x (s .pre .1) (k .result .0) (k .ensures) t
+    (too-long (s .args .today .0) (s .args .reach) (s .args .bounds .now) x (s .pre .1) (k .result .0) (k .ensures) t, tt)
 
 plan-reads-requires : tie.Need-plan-reads-requires
 plan-reads-requires c κs =
@@ -78,7 +78,7 @@ returns-3 c =
     let g : SFits w64 (l .result .0) = search needs in
     let x = planAt natOf 32 (s .args .nodes .now) 0 in
     let t = rw (toZ-ofZ f, toZ-ofZ g, l .ensures) at (i .if1 .left) in
-    too-great (s .args .today .0) (s .args .reach) (s .args .bounds .now) x (s .pre .1) (k .result) (k .ensures) t (c .before .before .before .before .before .before .plan-reads .ensures) (c .before .before .before .before .before .if2 .taken) (c .before .before .before .before .known-in-time .ensures) (c .before .before .before .if3 .taken) (c .before .before .plan-magnitude .ensures) (c .enum-told .given .1)
+    (too-great (s .args .today .0) (s .args .reach) (s .args .bounds .now) x (s .pre .1) (k .result) (k .ensures) t (c .before .before .before .before .before .before .plan-reads .ensures) (c .before .before .before .before .before .if2 .taken) (c .before .before .before .before .known-in-time .ensures) (c .before .before .before .if3 .taken) (c .before .before .plan-magnitude .ensures) (c .enum-told .given .1), tt)
 
 returns-4 : tie.Need-returns-4
 returns-4 c =
@@ -90,7 +90,7 @@ returns-4 c =
     let g : SFits w64 (l .result .0) = search needs in
     let x = planAt natOf 32 (s .args .nodes .now) 0 in
     let t = rw (toZ-ofZ f, toZ-ofZ g, l .ensures) at (i .if1 .left) in
-    late (s .args .today .0) (s .args .reach) (s .args .bounds .now) x (s .pre .1) (k .result) (k .ensures) t (c .before .before .before .plan-reads .ensures) (c .before .before .if2 .taken) (c .before .known-in-time .ensures) (c .if3 .left)
+    (late (s .args .today .0) (s .args .reach) (s .args .bounds .now) x (s .pre .1) (k .result) (k .ensures) t (c .before .before .before .plan-reads .ensures) (c .before .before .if2 .taken) (c .before .known-in-time .ensures) (c .if3 .left), tt)
 
 returns-5 : tie.Need-returns-5
 returns-5 c =
@@ -102,7 +102,7 @@ returns-5 c =
     let g : SFits w64 (l .result .0) = search needs in
     let x = planAt natOf 32 (s .args .nodes .now) 0 in
     let t = rw (toZ-ofZ f, toZ-ofZ g, l .ensures) at (i .if1 .left) in
-    unread (s .args .today .0) (s .args .reach) (s .args .bounds .now) x (s .pre .1) (k .result) (k .ensures) t (c .before .plan-reads .ensures) (c .if2 .left)
+    (unread (s .args .today .0) (s .args .reach) (s .args .bounds .now) x (s .pre .1) (k .result) (k .ensures) t (c .before .plan-reads .ensures) (c .if2 .left), tt)
 
 pub measure-spec : {M : Type 1} → statement M
 measure-spec =
