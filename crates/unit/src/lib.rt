@@ -1,0 +1,122 @@
+// The engine's calls for programs in C. A slice passes as a pointer and a length. Returned is 0 or the refusal's number;
+// `answer` gets the call's numbers, and is too short for them (13) only where nothing else is refused.
+ghost use mathlib.Core.Path.{_≡_};
+ghost use Prim.Native.Nat.{_≤_};
+ghost use lib.IntN.{natAbs, pos};
+ghost use lib.Dec.{leb};
+ghost use mathlib.Core.Bool.{cond};
+ghost use mathlib.Core.List.{_∷_, []};
+ghost use Rattle.language.specs.Calls.{checkCall, compileCall, cutCall, evaluateCall, paymentCall, stepCall};
+ghost use Rattle.language.specs.Limits.{maxAmount};
+ghost use Rattle.payments.specs.Answers.{payingAnswer, steppingAnswer};
+ghost use Rattle.payoff.specs.Answers.{writingAnswer};
+ghost use Rattle.payoff.specs.Evaluating.{evaluatingAnswer};
+ghost use Rattle.rules.specs.Answers.{checkingAnswer, givenOf};
+ghost use Rattle.text.specs.Refusals.{numberOf};
+ghost use Rattle.unit.specs.Returned.{bytesOnly, intoAnswer, intoBoth, measures, money, moneyBytes, put};
+ghost use Rattle.unit.specs.Within.{Counted, Limited};
+use payments::Paying;
+use payments::Stepping;
+use payoff::Evaluating;
+use payoff::Writing;
+use rules::Checking;
+use text::Refusal;
+
+// ---- numbers into `answer`
+
+fn put_one(answer: &mut [i64], first: i64) -> i32
+    ensures { λ r. ⌜ (r, now (answer .exit)) ≡ put (first ∷ []) (now (answer .entry)) ⌝ }
+{
+    if answer.len() < 1 {
+        return 13;
+    }
+    answer[0] = first;
+    0
+}
+
+fn put_two(answer: &mut [i64], first: i64, second: i64) -> i32
+    ensures { λ r. ⌜ (r, now (answer .exit)) ≡ put (first ∷ second ∷ []) (now (answer .entry)) ⌝ }
+{
+    if answer.len() < 2 {
+        return 13;
+    }
+    answer[0] = first;
+    answer[1] = second;
+    0
+}
+
+fn refused(refusal: Refusal) -> i32
+    ensures { λ r. ⌜ r ≡ pos (numberOf refusal) ⌝ }
+{
+    text::number_of(refusal) as i32
+}
+
+// A length or a magnitude: neither is below zero.
+fn size(x: i64) -> i64
+    requires { ⌜ natAbs x ≤ maxAmount ⌝ }
+    ensures { λ r. ⌜ r ≡ pos (natAbs x) ⌝ }
+{
+    integers::magnitude(x) as i64
+}
+
+// ---- what the engine's calls answered, into `answer`
+
+fn tell_check(checking: Checking, answer: &mut [i64]) -> i32
+    requires { ⌜ Limited (checkingAnswer checking) ⌝ }
+    ensures { λ r. ⌜ (r, now (answer .exit)) ≡ intoAnswer measures (now (answer .entry)) (checkingAnswer checking) ⌝ }
+{
+    match checking {
+        Checking::Accepted(length, magnitude) => {
+            put_two(answer, size(length.0), size(magnitude.0))
+        }
+        Checking::Refused(refusal) => refused(refusal),
+    }
+}
+
+fn tell_payment(paying: Paying, answer: &mut [i64]) -> i32
+    ensures { λ r. ⌜ (r, now (answer .exit)) ≡ intoAnswer money (now (answer .entry)) (payingAnswer paying) ⌝ }
+{
+    match paying {
+        Paying::Pays(pence) => put_one(answer, pence.0),
+        Paying::Refused(refusal) => refused(refusal),
+    }
+}
+
+fn tell_step(stepping: Stepping, answer: &mut [i64]) -> i32
+    requires { ⌜ Counted (steppingAnswer stepping) ⌝ }
+    ensures { λ r. ⌜ (r, now (answer .exit)) ≡ intoAnswer moneyBytes (now (answer .entry)) (steppingAnswer stepping) ⌝ }
+{
+    match stepping {
+        Stepping::Stepped(pence, bytes) => put_two(answer, pence.0, bytes as i64),
+        Stepping::Refused(refusal) => refused(refusal),
+    }
+}
+
+fn tell_bytes(writing: Writing, answer: &mut [i64]) -> i32
+    requires { ⌜ Counted (writingAnswer writing) ⌝ }
+    ensures { λ r. ⌜ (r, now (answer .exit)) ≡ intoAnswer bytesOnly (now (answer .entry)) (writingAnswer writing) ⌝ }
+{
+    match writing {
+        Writing::Bytes(bytes) => put_one(answer, bytes as i64),
+        Writing::Refused(refusal) => refused(refusal),
+    }
+}
+
+fn tell_value(evaluating: Evaluating, answer: &mut [i64]) -> i32
+    ensures { λ r. ⌜ (r, now (answer .exit)) ≡ intoAnswer money (now (answer .entry)) (evaluatingAnswer evaluating) ⌝ }
+{
+    match evaluating {
+        Evaluating::Value(value) => put_one(answer, value.0),
+        Evaluating::Refused(refusal) => refused(refusal),
+    }
+}
+
+// How many bytes of `out` a call may write: none where `answer` is too short, so that it refuses and leaves `out` as it was.
+fn usable(bytes: usize, places: usize, numbers: usize) -> usize
+    ensures { λ r. ⌜ r ≡ cond (leb numbers places) bytes 0 ⌝ }
+{
+    if places < numbers {
+        return 0;
+    }
+    bytes
+}
