@@ -1,12 +1,10 @@
 -- Numbers put into `answer`, place by place, and an answer's numbers.
 use Prim.Native.Nat.{_<_, _≤_, _^_, ℕ}
 use borrow.Author.Tests.{le-leb, lt-leb}
-use lib.Dec.{leb}
 use lib.IntN.{pos, ℤ}
-use lib.ListN.{drop, length, set}
-use mathlib.Core.Bool.{Bool, cond}
-use mathlib.Core.List.{List, _++_, _∷_, []}
-use mathlib.Core.Path.{_∙_, _≡_, ap, refl, sym}
+use lib.ListN.{length, set}
+use mathlib.Core.List.{List, _∷_, []}
+use mathlib.Core.Path.{_∙_, _≡_, ap, sym}
 use mir.Facts.{toZ-ofZ}
 use mir.Syntax.{w32, w64}
 use mir.Val.{SFits, ofZ, toZ}
@@ -38,6 +36,10 @@ module _ {A : Type 0} (numbers : A → List ℤ) (answer : List ℤ) {a : Answer
   pub told : (x : A) → a ≡ got x → (r : ℤ) (last : List ℤ) → SFits w32 r → (r, last) ≡ put (numbers x) answer → (toZ w32 (ofZ w32 r), last) ≡ intoAnswer numbers answer a
   unfolding intoAnswer
   told x e r last f h = ap (λ z. (z, last)) (toZ-ofZ f) ∙ h ∙ sym (ap (intoAnswer numbers answer) e)
+
+  -- what a call of its own told, handed on
+  pub passed-on : {b : Answer A} → a ≡ b → (r : ℤ) (last : List ℤ) → SFits w32 r → (r, last) ≡ intoAnswer numbers answer a → (toZ w32 (ofZ w32 r), last) ≡ intoAnswer numbers answer b
+  passed-on e r last f h = ap (λ z. (z, last)) (toZ-ofZ f) ∙ h ∙ ap (intoAnswer numbers answer) e
 
   -- a refused call: its number alone
   pub untold : (n : ℕ) → a ≡ refused n → (r : ℤ) → SFits w32 r → r ≡ pos n → (toZ w32 (ofZ w32 r), answer) ≡ intoAnswer numbers answer a

@@ -120,3 +120,138 @@ fn usable(bytes: usize, places: usize, numbers: usize) -> usize
     }
     bytes
 }
+
+// ---- the calls
+
+// Length and magnitude of an accepted plan.
+#[no_mangle]
+pub extern "C" fn codhungu_check(
+    plan: &[u8],
+    days: &[i64],
+    h: i64,
+    f: i64,
+    factors: &[i64],
+    bounds: &[i64],
+    values: &[i64],
+    today: i64,
+    answer: &mut [i64],
+) -> i32
+    ensures { λ r. ⌜ (r, now (answer .exit)) ≡ intoAnswer measures (now (answer .entry)) (checkCall (now (plan .entry))
+        (givenOf (now (days .entry)) h f (now (factors .entry)) (now (bounds .entry)) (now (values .entry))) today) ⌝ }
+{
+    let checking = rules::check(plan, days, h, f, factors, bounds, values, today);
+    tell_check(checking, answer)
+}
+
+// The pence that p pays q in the month.
+#[no_mangle]
+pub extern "C" fn codhungu_payment(
+    plan: &[u8],
+    days: &[i64],
+    h: i64,
+    f: i64,
+    factors: &[i64],
+    bounds: &[i64],
+    values: &[i64],
+    today: i64,
+    p: i64,
+    q: i64,
+    month: i64,
+    answer: &mut [i64],
+) -> i32
+    ensures { λ r. ⌜ (r, now (answer .exit)) ≡ intoAnswer money (now (answer .entry)) (paymentCall (now (plan .entry))
+        (givenOf (now (days .entry)) h f (now (factors .entry)) (now (bounds .entry)) (now (values .entry))) today p q month) ⌝ }
+{
+    let paying = payments::payment(
+        plan,
+        days,
+        h,
+        f,
+        factors,
+        bounds,
+        values,
+        today,
+        p,
+        q,
+        month,
+    );
+    tell_payment(paying, answer)
+}
+
+// The pence that p pays q today, and the bytes of the plan for tomorrow in `out`.
+#[no_mangle]
+pub extern "C" fn codhungu_step(
+    plan: &[u8],
+    days: &[i64],
+    h: i64,
+    f: i64,
+    factors: &[i64],
+    bounds: &[i64],
+    values: &[i64],
+    today: i64,
+    p: i64,
+    q: i64,
+    out: &mut [u8],
+    answer: &mut [i64],
+) -> i32
+    ensures { λ r. ⌜ ((r, now (answer .exit)), now (out .exit)) ≡ intoBoth moneyBytes (now (answer .entry)) (now (out .entry)) (stepCall (now (plan .entry))
+        (givenOf (now (days .entry)) h f (now (factors .entry)) (now (bounds .entry)) (now (values .entry))) today p q (now (out .entry))) ⌝ }
+{
+    let end = usable(out.len(), answer.len(), 2);
+    let stepping = payments::step(
+        plan,
+        days,
+        h,
+        f,
+        factors,
+        bounds,
+        values,
+        today,
+        p,
+        q,
+        &mut out[..end],
+    );
+    tell_step(stepping, answer)
+}
+
+// The bytes of the plan's payoff in `out`.
+#[no_mangle]
+pub extern "C" fn codhungu_compile(plan: &[u8], out: &mut [u8], answer: &mut [i64]) -> i32
+    ensures { λ r. ⌜ ((r, now (answer .exit)), now (out .exit)) ≡ intoBoth bytesOnly (now (answer .entry)) (now (out .entry)) (compileCall (now (plan .entry)) (now (out .entry))) ⌝ }
+{
+    let end = usable(out.len(), answer.len(), 1);
+    let writing = payoff::compile(plan, &mut out[..end]);
+    tell_bytes(writing, answer)
+}
+
+// The bytes of the cut payoff in `out`.
+#[no_mangle]
+pub extern "C" fn codhungu_cut(payoff: &[u8], out: &mut [u8], answer: &mut [i64]) -> i32
+    ensures { λ r. ⌜ ((r, now (answer .exit)), now (out .exit)) ≡ intoBoth bytesOnly (now (answer .entry)) (now (out .entry)) (cutCall (now (payoff .entry)) (now (out .entry))) ⌝ }
+{
+    let end = usable(out.len(), answer.len(), 1);
+    let writing = payoff::cut(payoff, &mut out[..end]);
+    tell_bytes(writing, answer)
+}
+
+// The payoff's value to the pair (p, q), `month` being the month now, in millionths of a penny.
+#[no_mangle]
+pub extern "C" fn codhungu_evaluate(
+    payoff: &[u8],
+    days: &[i64],
+    h: i64,
+    f: i64,
+    factors: &[i64],
+    bounds: &[i64],
+    values: &[i64],
+    month: i64,
+    p: i64,
+    q: i64,
+    answer: &mut [i64],
+) -> i32
+    ensures { λ r. ⌜ (r, now (answer .exit)) ≡ intoAnswer money (now (answer .entry)) (evaluateCall (now (payoff .entry))
+        (givenOf (now (days .entry)) h f (now (factors .entry)) (now (bounds .entry)) (now (values .entry))) p q month) ⌝ }
+{
+    let evaluating = payoff::evaluate(payoff, days, h, f, factors, bounds, values, month, p, q);
+    tell_value(evaluating, answer)
+}

@@ -5,24 +5,18 @@ use native.Mathlib.Omega.{arith}
 use Rattle.unit.proofs.Puts.{one-put, too-short}
 use Rattle.unit.proofs.put_one.Statement.{statement}
 use Rattle.unit.proofs.put_one.Tie as tie
-use Rattle.unit.proofs.put_one.Reads as reads
-use Rattle.unit.proofs.put_one.Lts as lts
 
--- src/lib.rt:30:9
 returns : tie.Need-returns
 returns c =
     let a = c .before .args in
     too-short (a .first ∷ []) (a .answer .now) (omega (arith, c .if1 .taken))
 
--- src/lib.rt:32:5
 slice-set-from-first : tie.Need-slice-set-from-first
 slice-set-from-first c = search needs
 
--- src/lib.rt:26:1
 same-length : tie.Need-same-length
 same-length c = search needs
 
--- src/lib.rt:26:1
 returns-2 : tie.Need-returns-2
 returns-2 c =
     let s = c .before in

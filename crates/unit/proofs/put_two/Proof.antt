@@ -5,28 +5,21 @@ use native.Mathlib.Omega.{arith}
 use Rattle.unit.proofs.Puts.{too-short, two-put}
 use Rattle.unit.proofs.put_two.Statement.{statement}
 use Rattle.unit.proofs.put_two.Tie as tie
-use Rattle.unit.proofs.put_two.Reads as reads
-use Rattle.unit.proofs.put_two.Lts as lts
 
--- src/lib.rt:40:9
 returns : tie.Need-returns
 returns c =
     let a = c .before .args in
     too-short (a .first ∷ a .second ∷ []) (a .answer .now) (omega (arith, c .if1 .taken))
 
--- src/lib.rt:42:5
 slice-set-from-first : tie.Need-slice-set-from-first
 slice-set-from-first c = search needs
 
--- src/lib.rt:43:5
 slice-set-from-second : tie.Need-slice-set-from-second
 slice-set-from-second c = search needs
 
--- src/lib.rt:36:1
 same-length : tie.Need-same-length
 same-length c = search needs
 
--- src/lib.rt:36:1
 returns-2 : tie.Need-returns-2
 returns-2 c =
     let s = c .before in

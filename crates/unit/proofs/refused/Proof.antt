@@ -5,19 +5,13 @@ use mir.Syntax.{w32}
 use mir.ValLaws.{toZ-pos}
 use Rattle.unit.proofs.refused.Statement.{statement}
 use Rattle.unit.proofs.refused.Tie as tie
-use Rattle.unit.proofs.refused.Reads as reads
-use Rattle.unit.proofs.refused.Lts as lts
-use Rattle.text.proofs.number_of.Reads as number-of-reads
 
--- src/lib.rt:50:5
 number-of-requires : tie.Need-number-of-requires
 number-of-requires c κs = search needs
 
--- src/lib.rt:50:5
 cast-result : tie.Need-cast-result
 cast-result c = search needs
 
--- src/lib.rt:47:1
 returns : tie.Need-returns
 returns c = toZ-pos w32 (c .number-of .result) (search needs) ∙ ap pos (c .number-of .ensures)
 

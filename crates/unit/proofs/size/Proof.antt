@@ -10,9 +10,6 @@ use mir.Syntax.{w64}
 use mir.ValLaws.{toZ-pos}
 use Rattle.unit.proofs.size.Statement.{statement}
 use Rattle.unit.proofs.size.Tie as tie
-use Rattle.unit.proofs.size.Reads as reads
-use Rattle.unit.proofs.size.Lts as lts
-use Rattle.integers.proofs.magnitude.Reads as magnitude-reads
 
 is : (c : tie.After-magnitude) → c .magnitude .result ≡ natAbs (c .before .args .x)
 is c = rw (toZ-ofZ (c .before .fits .x)) at (c .magnitude .ensures)
@@ -20,15 +17,12 @@ is c = rw (toZ-ofZ (c .before .fits .x)) at (c .magnitude .ensures)
 small : (c : tie.After-magnitude) → c .magnitude .result ≤ maxAmount
 small c = subst (λ n. n ≤ maxAmount) (sym (is c)) (c .before .pre)
 
--- src/lib.rt:59:5
 magnitude-requires : tie.Need-magnitude-requires
 magnitude-requires c κs = search needs
 
--- src/lib.rt:59:5
 cast-result : tie.Need-cast-result
 cast-result c = sfits64 9000000000000 (small c) tt
 
--- src/lib.rt:55:1
 returns : tie.Need-returns
 returns c = toZ-pos w64 (c .magnitude .result) (omega (arith, small c)) ∙ ap pos (is c)
 

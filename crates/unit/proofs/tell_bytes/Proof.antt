@@ -9,39 +9,28 @@ use Rattle.unit.proofs.Puts.{count-fits, told, untold}
 use Rattle.unit.specs.Returned.{bytesOnly}
 use Rattle.unit.proofs.tell_bytes.Statement.{statement}
 use Rattle.unit.proofs.tell_bytes.Tie as tie
-use Rattle.unit.proofs.tell_bytes.Reads as reads
-use Rattle.unit.proofs.tell_bytes.Lts as lts
-use Rattle.unit.proofs.put_one.Reads as put-one-reads
-use Rattle.unit.proofs.refused.Reads as refused-reads
 
--- src/lib.rt:100:24
 enum-known-writing : tie.Need-enum-known-writing
 enum-known-writing c = search needs
 
--- src/lib.rt:100:50
 cast-put-one : tie.Need-cast-put-one
 unfolding writingAnswer
 cast-put-one c =
     let g = c .before .before .writing .given in
     count-fits (g .0 .0) (c .before .before .before .before .pre .within _ (ap writingAnswer (g .1)))
 
--- src/lib.rt:100:34
 put-one-requires : tie.Need-put-one-requires
 put-one-requires c κs = search needs
 
--- src/lib.rt:101:26
 enum-known-writing-2 : tie.Need-enum-known-writing-2
 enum-known-writing-2 c = search needs
 
--- src/lib.rt:101:38
 refused-requires : tie.Need-refused-requires
 refused-requires c κs = search needs
 
--- src/lib.rt:95:1
 same-length : tie.Need-same-length
 same-length c = search needs
 
--- src/lib.rt:95:1
 returns : tie.Need-returns
 unfolding writingAnswer
 returns c =
@@ -51,7 +40,6 @@ returns c =
     let n = c .before .before .before .before .before .before .pre .within _ (ap writingAnswer (c .before .before .before .before .writing .given .1)) in
     told bytesOnly (c .before .before .before .before .before .before .args .answer .now) (record { value = tt; count = x .0 }) (ap writingAnswer (c .before .before .before .before .writing .given .1)) (k .result) (k .last .0) f (rw (toZ-pos w64 (x .0) n) at (k .ensures))
 
--- src/lib.rt:95:1
 returns-2 : tie.Need-returns-2
 unfolding writingAnswer
 returns-2 c =

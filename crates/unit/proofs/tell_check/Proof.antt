@@ -10,17 +10,10 @@ use Rattle.unit.specs.Returned.{measures}
 use lib.IntN.{natAbs}
 use Rattle.unit.proofs.tell_check.Statement.{statement}
 use Rattle.unit.proofs.tell_check.Tie as tie
-use Rattle.unit.proofs.tell_check.Reads as reads
-use Rattle.unit.proofs.tell_check.Lts as lts
-use Rattle.unit.proofs.put_two.Reads as put-two-reads
-use Rattle.unit.proofs.refused.Reads as refused-reads
-use Rattle.unit.proofs.size.Reads as size-reads
 
--- src/lib.rt:69:28
 enum-known-checking : tie.Need-enum-known-checking
 enum-known-checking c = search needs
 
--- src/lib.rt:70:29
 size-requires : tie.Need-size-requires
 unfolding checkingAnswer
 size-requires c κs =
@@ -28,7 +21,6 @@ size-requires c κs =
     let l : SFits w64 (g .0 .0 .0) = search needs in
     rw (toZ-ofZ l) (c .before .before .before .before .before .pre .within _ (ap checkingAnswer (g .1)) .0)
 
--- src/lib.rt:70:45
 size-requires-2 : tie.Need-size-requires-2
 unfolding checkingAnswer
 size-requires-2 c κs =
@@ -36,23 +28,18 @@ size-requires-2 c κs =
     let m : SFits w64 (g .0 .1 .0 .0) = search needs in
     rw (toZ-ofZ m) (c .before .before .before .before .before .before .before .pre .within _ (ap checkingAnswer (g .1)) .1)
 
--- src/lib.rt:70:13
 put-two-requires : tie.Need-put-two-requires
 put-two-requires c κs = search needs
 
--- src/lib.rt:72:27
 enum-known-checking-2 : tie.Need-enum-known-checking-2
 enum-known-checking-2 c = search needs
 
--- src/lib.rt:72:39
 refused-requires : tie.Need-refused-requires
 refused-requires c κs = search needs
 
--- src/lib.rt:64:1
 same-length : tie.Need-same-length
 same-length c = search needs
 
--- src/lib.rt:64:1
 returns : tie.Need-returns
 unfolding checkingAnswer
 returns c =
@@ -67,7 +54,6 @@ returns c =
     let q : SFits w64 (j .result) = search needs in
     told measures (c .before .before .before .before .before .before .before .before .before .before .args .answer .now) (record { length = natAbs (x .0 .0); magnitude = natAbs (x .1 .0 .0) }) (ap checkingAnswer (c .before .before .before .before .before .before .before .before .checking .given .1)) (k .result) (k .last .0) f (rw (toZ-ofZ p, toZ-ofZ q, i .ensures, j .ensures, toZ-ofZ l, toZ-ofZ m) at (k .ensures))
 
--- src/lib.rt:64:1
 returns-2 : tie.Need-returns-2
 unfolding checkingAnswer
 returns-2 c =

@@ -10,39 +10,28 @@ use Rattle.unit.proofs.Puts.{count-fits, told, untold}
 use Rattle.unit.specs.Returned.{moneyBytes}
 use Rattle.unit.proofs.tell_step.Statement.{statement}
 use Rattle.unit.proofs.tell_step.Tie as tie
-use Rattle.unit.proofs.tell_step.Reads as reads
-use Rattle.unit.proofs.tell_step.Lts as lts
-use Rattle.unit.proofs.put_two.Reads as put-two-reads
-use Rattle.unit.proofs.refused.Reads as refused-reads
 
--- src/lib.rt:90:27
 enum-known-stepping : tie.Need-enum-known-stepping
 enum-known-stepping c = search needs
 
--- src/lib.rt:90:69
 cast-put-two : tie.Need-cast-put-two
 unfolding steppingAnswer
 cast-put-two c =
     let g = c .before .before .stepping .given in
     count-fits (g .0 .1 .0) (c .before .before .before .before .pre .within _ (ap steppingAnswer (g .1)))
 
--- src/lib.rt:90:44
 put-two-requires : tie.Need-put-two-requires
 put-two-requires c κs = search needs
 
--- src/lib.rt:91:27
 enum-known-stepping-2 : tie.Need-enum-known-stepping-2
 enum-known-stepping-2 c = search needs
 
--- src/lib.rt:91:39
 refused-requires : tie.Need-refused-requires
 refused-requires c κs = search needs
 
--- src/lib.rt:85:1
 same-length : tie.Need-same-length
 same-length c = search needs
 
--- src/lib.rt:85:1
 returns : tie.Need-returns
 unfolding steppingAnswer
 returns c =
@@ -53,7 +42,6 @@ returns c =
     let n = c .before .before .before .before .before .before .before .pre .within _ (ap steppingAnswer (c .before .before .before .before .before .stepping .given .1)) in
     told moneyBytes (c .before .before .before .before .before .before .before .args .answer .now) (record { value = x .0 .0; count = x .1 .0 }) (ap steppingAnswer (c .before .before .before .before .before .stepping .given .1)) (k .result) (k .last .0) f (rw (toZ-ofZ v, toZ-pos w64 (x .1 .0) n) at (k .ensures))
 
--- src/lib.rt:85:1
 returns-2 : tie.Need-returns-2
 unfolding steppingAnswer
 returns-2 c =

@@ -9,32 +9,22 @@ use Rattle.unit.proofs.Puts.{told, untold}
 use Rattle.unit.specs.Returned.{money}
 use Rattle.unit.proofs.tell_value.Statement.{statement}
 use Rattle.unit.proofs.tell_value.Tie as tie
-use Rattle.unit.proofs.tell_value.Reads as reads
-use Rattle.unit.proofs.tell_value.Lts as lts
-use Rattle.unit.proofs.put_one.Reads as put-one-reads
-use Rattle.unit.proofs.refused.Reads as refused-reads
 
--- src/lib.rt:109:27
 enum-known-evaluating : tie.Need-enum-known-evaluating
 enum-known-evaluating c = search needs
 
--- src/lib.rt:109:37
 put-one-requires : tie.Need-put-one-requires
 put-one-requires c κs = search needs
 
--- src/lib.rt:110:29
 enum-known-evaluating-2 : tie.Need-enum-known-evaluating-2
 enum-known-evaluating-2 c = search needs
 
--- src/lib.rt:110:41
 refused-requires : tie.Need-refused-requires
 refused-requires c κs = search needs
 
--- src/lib.rt:105:1
 same-length : tie.Need-same-length
 same-length c = search needs
 
--- src/lib.rt:105:1
 returns : tie.Need-returns
 returns c =
     let k = c .before .put-one in
@@ -43,7 +33,6 @@ returns c =
     let v : SFits w64 (x .0 .0) = search needs in
     told money (c .before .before .before .before .before .before .before .args .answer .now) (x .0 .0) (ap evaluatingAnswer (c .before .before .before .before .before .evaluating .given .1)) (k .result) (k .last .0) f (rw (toZ-ofZ v) at (k .ensures))
 
--- src/lib.rt:105:1
 returns-2 : tie.Need-returns-2
 returns-2 c =
     let k = c .refused in

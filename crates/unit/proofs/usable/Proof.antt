@@ -1,16 +1,12 @@
 use borrow.Author.Tests.{le-leb, lt-leb}
 use Rattle.unit.proofs.usable.Statement.{statement}
 use Rattle.unit.proofs.usable.Tie as tie
-use Rattle.unit.proofs.usable.Reads as reads
-use Rattle.unit.proofs.usable.Lts as lts
 
--- src/lib.rt:119:9
 returns : tie.Need-returns
 returns c =
     let a = c .before .args in
     rw (lt-leb (a .numbers) (a .places) (c .if1 .taken))
 
--- src/lib.rt:115:1
 returns-2 : tie.Need-returns-2
 returns-2 c =
     let a = c .before .args in
