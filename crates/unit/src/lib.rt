@@ -22,27 +22,32 @@ use payoff::Writing;
 use rules::Checking;
 use text::Refusal;
 
+const DONE: i32 = 0;
+
+// Document 01's 13.
+const NO_ROOM: i32 = 13;
+
 // ---- numbers into `answer`
 
 fn put_one(answer: &mut [i64], first: i64) -> i32
     ensures { λ r. ⌜ (r, now (answer .exit)) ≡ put (first ∷ []) (now (answer .entry)) ⌝ }
 {
     if answer.len() < 1 {
-        return 13;
+        return NO_ROOM;
     }
     answer[0] = first;
-    0
+    DONE
 }
 
 fn put_two(answer: &mut [i64], first: i64, second: i64) -> i32
     ensures { λ r. ⌜ (r, now (answer .exit)) ≡ put (first ∷ second ∷ []) (now (answer .entry)) ⌝ }
 {
     if answer.len() < 2 {
-        return 13;
+        return NO_ROOM;
     }
     answer[0] = first;
     answer[1] = second;
-    0
+    DONE
 }
 
 fn refused(refusal: Refusal) -> i32
