@@ -72,7 +72,9 @@ fn tell_check(checking: Checking, answer: &mut [i64]) -> i32
 {
     match checking {
         Checking::Accepted(length, magnitude) => {
-            put_two(answer, size(length.0), size(magnitude.0))
+            let months = size(length.0);
+            let pence = size(magnitude.0);
+            put_two(answer, months, pence)
         }
         Checking::Refused(refusal) => refused(refusal),
     }
@@ -199,7 +201,8 @@ pub extern "C" fn codhungu_step(
     out: &mut [u8],
     answer: &mut [i64],
 ) -> i32
-    ensures { λ r. ⌜ ((r, now (answer .exit)), now (out .exit)) ≡ intoBoth moneyBytes (now (answer .entry)) (now (out .entry)) (stepCall (now (plan .entry))
+    ensures { λ r. ⌜ ((r, now (answer .exit)), now (out .exit)) ≡ intoBoth moneyBytes (now (answer .entry)) (now (out .entry))
+        (stepCall (now (plan .entry))
         (givenOf (now (days .entry)) h f (now (factors .entry)) (now (bounds .entry)) (now (values .entry))) today p q (now (out .entry))) ⌝ }
 {
     let end = usable(out.len(), answer.len(), 2);
@@ -222,7 +225,8 @@ pub extern "C" fn codhungu_step(
 // The bytes of the plan's payoff in `out`.
 #[no_mangle]
 pub extern "C" fn codhungu_compile(plan: &[u8], out: &mut [u8], answer: &mut [i64]) -> i32
-    ensures { λ r. ⌜ ((r, now (answer .exit)), now (out .exit)) ≡ intoBoth bytesOnly (now (answer .entry)) (now (out .entry)) (compileCall (now (plan .entry)) (now (out .entry))) ⌝ }
+    ensures { λ r. ⌜ ((r, now (answer .exit)), now (out .exit)) ≡ intoBoth bytesOnly (now (answer .entry)) (now (out .entry))
+        (compileCall (now (plan .entry)) (now (out .entry))) ⌝ }
 {
     let end = usable(out.len(), answer.len(), 1);
     let writing = payoff::compile(plan, &mut out[..end]);
@@ -232,7 +236,8 @@ pub extern "C" fn codhungu_compile(plan: &[u8], out: &mut [u8], answer: &mut [i6
 // The bytes of the cut payoff in `out`.
 #[no_mangle]
 pub extern "C" fn codhungu_cut(payoff: &[u8], out: &mut [u8], answer: &mut [i64]) -> i32
-    ensures { λ r. ⌜ ((r, now (answer .exit)), now (out .exit)) ≡ intoBoth bytesOnly (now (answer .entry)) (now (out .entry)) (cutCall (now (payoff .entry)) (now (out .entry))) ⌝ }
+    ensures { λ r. ⌜ ((r, now (answer .exit)), now (out .exit)) ≡ intoBoth bytesOnly (now (answer .entry)) (now (out .entry))
+        (cutCall (now (payoff .entry)) (now (out .entry))) ⌝ }
 {
     let end = usable(out.len(), answer.len(), 1);
     let writing = payoff::cut(payoff, &mut out[..end]);

@@ -17,16 +17,16 @@ enum-known-checking c = search needs
 size-requires : tie.Need-size-requires
 unfolding checkingAnswer
 size-requires c κs =
-    let g = c .before .before .before .checking .given in
+    let g = c .before .before .checking .given in
     let l : SFits w64 (g .0 .0 .0) = search needs in
-    rw (toZ-ofZ l) (c .before .before .before .before .before .pre .within _ (ap checkingAnswer (g .1)) .0)
+    rw (toZ-ofZ l) (c .before .before .before .before .pre .within _ (ap checkingAnswer (g .1)) .0)
 
 size-requires-2 : tie.Need-size-requires-2
 unfolding checkingAnswer
 size-requires-2 c κs =
-    let g = c .before .before .before .before .before .checking .given in
+    let g = c .before .before .before .before .checking .given in
     let m : SFits w64 (g .0 .1 .0 .0) = search needs in
-    rw (toZ-ofZ m) (c .before .before .before .before .before .before .before .pre .within _ (ap checkingAnswer (g .1)) .1)
+    rw (toZ-ofZ m) (c .before .before .before .before .before .before .pre .within _ (ap checkingAnswer (g .1)) .1)
 
 put-two-requires : tie.Need-put-two-requires
 put-two-requires c κs = search needs
@@ -48,8 +48,8 @@ returns c =
     let f : SFits w32 (k .result) = search needs in
     let l : SFits w64 (x .0 .0) = search needs in
     let m : SFits w64 (x .1 .0 .0) = search needs in
-    let i = c .before .before .before .before .size in
-    let j = c .before .before .size2 in
+    let i = c .before .before .before .before .before .size in
+    let j = c .before .before .before .size2 in
     let p : SFits w64 (i .result) = search needs in
     let q : SFits w64 (j .result) = search needs in
     told measures (c .before .before .before .before .before .before .before .before .before .before .args .answer .now) (record { length = natAbs (x .0 .0); magnitude = natAbs (x .1 .0 .0) }) (ap checkingAnswer (c .before .before .before .before .before .before .before .before .checking .given .1)) (k .result) (k .last .0) f (rw (toZ-ofZ p, toZ-ofZ q, i .ensures, j .ensures, toZ-ofZ l, toZ-ofZ m) at (k .ensures))
