@@ -8,6 +8,7 @@ ghost use mathlib.Core.Bool.{cond};
 ghost use mathlib.Core.List.{_∷_, []};
 ghost use Rattle.language.specs.Calls.{checkCall, compileCall, cutCall, evaluateCall, paymentCall, stepCall};
 ghost use Rattle.language.specs.Limits.{maxAmount};
+ghost use Rattle.language.specs.Sheet.{sheetCall};
 ghost use Rattle.payments.specs.Answers.{payingAnswer, steppingAnswer};
 ghost use Rattle.payoff.specs.Answers.{writingAnswer};
 ghost use Rattle.payoff.specs.Evaluating.{evaluatingAnswer};
@@ -15,12 +16,14 @@ ghost use Rattle.rules.specs.Answers.{checkingAnswer, givenOf};
 ghost use Rattle.text.specs.Refusals.{numberOf};
 ghost use Rattle.unit.specs.Returned.{bytesOnly, intoAnswer, intoBoth, measures, money, moneyBytes, put};
 ghost use Rattle.unit.specs.Within.{Counted, Limited};
+ghost use Rattle.writer.specs.Answers.{writtenAnswer};
 use payments::Paying;
 use payments::Stepping;
 use payoff::Evaluating;
 use payoff::Writing;
 use rules::Checking;
 use text::Refusal;
+use writer::Written;
 
 const DONE: i32 = 0;
 
@@ -115,6 +118,16 @@ fn tell_value(evaluating: Evaluating, answer: &mut [i64]) -> i32
     match evaluating {
         Evaluating::Value(value) => put_one(answer, value.0),
         Evaluating::Refused(refusal) => refused(refusal),
+    }
+}
+
+fn tell_sheet(written: Written, answer: &mut [i64]) -> i32
+    requires { ⌜ Counted (writtenAnswer written) ⌝ }
+    ensures { λ r. ⌜ (r, now (answer .exit)) ≡ intoAnswer bytesOnly (now (answer .entry)) (writtenAnswer written) ⌝ }
+{
+    match written {
+        Written::Bytes(bytes) => put_one(answer, bytes as i64),
+        Written::NoRoom => NO_ROOM,
     }
 }
 
@@ -264,4 +277,15 @@ pub extern "C" fn codhungu_evaluate(
 {
     let evaluating = payoff::evaluate(payoff, days, h, f, factors, bounds, values, month, p, q);
     tell_value(evaluating, answer)
+}
+
+// The bytes of the sheet's lines in `out`.
+#[no_mangle]
+pub extern "C" fn codhungu_sheet(input: &[u8], out: &mut [u8], answer: &mut [i64]) -> i32
+    ensures { λ r. ⌜ ((r, now (answer .exit)), now (out .exit)) ≡ intoBoth bytesOnly (now (answer .entry)) (now (out .entry))
+        (sheetCall (now (input .entry)) (now (out .entry))) ⌝ }
+{
+    let end = usable(out.len(), answer.len(), 1);
+    let written = sheets::sheet(input, &mut out[..end]);
+    tell_sheet(written, answer)
 }
