@@ -1,0 +1,4 @@
+-- Laws of the C interface.
+mod Buffers
+mod Puts
+mod Sizes

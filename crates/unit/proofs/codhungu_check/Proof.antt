@@ -1,0 +1,32 @@
+use borrow.Author.Needs.{needs}
+use mir.Facts.{toZ-ofZ}
+use mir.Syntax.{w32}
+use mir.Val.{SFits}
+use Rattle.unit.proofs.Puts.{passed-on}
+use Rattle.unit.specs.Returned.{measures}
+use Rattle.rules.specs.Answers.{givenOf}
+use Rattle.unit.proofs.Sizes.{limited}
+use Rattle.unit.proofs.codhungu_check.Statement.{statement}
+use Rattle.unit.proofs.codhungu_check.Tie as tie
+
+check-requires : tie.Need-check-requires
+check-requires c κs = search needs
+
+tell-check-requires : tie.Need-tell-check-requires
+tell-check-requires c κs =
+    let s = c .before .before .before in
+    let a = s .args in
+    limited (a .plan .now) (givenOf (a .days .now) (a .h) (a .f) (a .factors .now) (a .bounds .now) (a .values .now)) (a .today) (rw (toZ-ofZ (s .fits .h), toZ-ofZ (s .fits .f), toZ-ofZ (s .fits .today)) at (c .before .check .ensures))
+
+same-length : tie.Need-same-length
+same-length c = search needs
+
+returns : tie.Need-returns
+returns c =
+    let s = c .before .before .before .before .before in
+    let k = c .before .tell-check in
+    let f : SFits w32 (k .result) = search needs in
+    passed-on measures (s .args .answer .now) (rw (toZ-ofZ (s .fits .h), toZ-ofZ (s .fits .f), toZ-ofZ (s .fits .today)) at (c .before .before .before .check .ensures)) (k .result) (k .last .1 .0) f (k .ensures)
+
+pub codhungu-check-spec : {M : Type 1} → statement M
+codhungu-check-spec = tie.close (tie.spec check-requires tell-check-requires same-length returns)

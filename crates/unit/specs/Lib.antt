@@ -1,0 +1,3 @@
+-- What the C interface returns.
+pub mod Returned
+pub mod Within
