@@ -16,7 +16,7 @@ tell-check-requires : tie.Need-tell-check-requires
 tell-check-requires c κs =
     let s = c .before .before .before in
     let a = s .args in
-    limited (a .plan .now) (givenOf (a .days .now) (a .h) (a .f) (a .factors .now) (a .bounds .now) (a .values .now)) (a .today) (rw (toZ-ofZ (s .fits .h), toZ-ofZ (s .fits .f), toZ-ofZ (s .fits .today)) at (c .before .check .ensures))
+    limited (a .plan .now) (givenOf (a .days .now) (a .h) (a .f) (a .factors .now) (a .bounds .now) (a .values .now)) (a .today) (rw (toZ-ofZ (s .fits .h), toZ-ofZ (s .fits .f), toZ-ofZ (s .fits .today)) at (c .before .check .ensures .0))
 
 same-length : tie.Need-same-length
 same-length c = search needs
@@ -26,7 +26,7 @@ returns c =
     let s = c .before .before .before .before .before in
     let k = c .before .tell-check in
     let f : SFits w32 (k .result) = search needs in
-    passed-on measures (s .args .answer .now) (rw (toZ-ofZ (s .fits .h), toZ-ofZ (s .fits .f), toZ-ofZ (s .fits .today)) at (c .before .before .before .check .ensures)) (k .result) (k .last .1 .0) f (k .ensures)
+    passed-on measures (s .args .answer .now) (rw (toZ-ofZ (s .fits .h), toZ-ofZ (s .fits .f), toZ-ofZ (s .fits .today)) at (c .before .before .before .check .ensures .0)) (k .result) (k .last .1 .0) f (k .ensures)
 
 pub codhungu-check-spec : {M : Type 1} → statement M
 codhungu-check-spec = tie.close (tie.spec check-requires tell-check-requires same-length returns)
