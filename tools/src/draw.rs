@@ -181,7 +181,7 @@ pub fn picture(file: &str, accepted: &Accepted, sheet: Option<&Sheet>, waits: &[
     );
 
     // Months of waiting, behind everything else.
-    for (_, _, first, last) in begun.iter().take(STRIPS) {
+    for (_, _, first, last) in &begun {
         let from = middle(*first) - slot / 2.0;
         let wide = middle(*last) + slot / 2.0 - from;
         let _ = writeln!(
