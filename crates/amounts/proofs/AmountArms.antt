@@ -72,6 +72,11 @@ module _ (values nodes : List ℤ) (r left at : ℕ) where
       → (z : ℤ) (p : ℕ) → p ≡ linkAt nodes at 4 → z ≡ child p → z ≡ here
   else-arm n b eb t z p ep ez = ez ∙ ap child ep ∙ sym (chosen-arm n false (sym eb ∙ t))
 
+  -- both branches worked out, and one taken
+  pub choose-arm : AmountNode values nodes r left at letter.Choose → (b : Bool) → b ≡ holds (flat values) (testAt offsetOf (left - 1) nodes (at + 1)) r
+      → (x y z : ℤ) (p q : ℕ) → p ≡ linkAt nodes at 3 → x ≡ child p → q ≡ linkAt nodes at 4 → y ≡ child q → z ≡ cond b x y → z ≡ here
+  choose-arm n b eb x y z p q ep ex eq ey ez = ez ∙ ap₂ (cond b) (ex ∙ ap child ep) (ey ∙ ap child eq) ∙ sym (chosen-arm n b (sym eb))
+
   pub no-amount-arm : AmountNode values nodes r left at letter.NoAmount → pos 0 ≡ here
   unfolding value
   no-amount-arm n = sym (by-letter n)

@@ -1,5 +1,7 @@
 -- Laws of amounts and tests worked out in the node table.
 pub mod AmountArms
+pub mod FourMonths
+pub mod FourWaits
 pub mod Nodes
 pub mod Placed
 pub mod RowReads

@@ -1,11 +1,11 @@
 -- What a row gives: the place that an `O` reads, and the divisor of a `Q`.
-use Prim.Native.Nat.{_+_, _<_, _≤_}
+use Prim.Native.Nat.{_+_, _<_, _≤_, ℕ}
 use lib.Dec.{T, lt→ltb}
 use lib.IntN.{_+ℤ_, natAbs, negsuc, pos, ℤ}
 use lib.ListN.{getD, length}
 use lib.Signed.{_<ℤ_, nonNeg}
 use mathlib.Core.List.{List}
-use mathlib.Core.Path.{_∙_, _≡_, ap, ap₂, refl}
+use mathlib.Core.Path.{_∙_, _≡_, ap, ap₂, refl, sym}
 use mir.Facts.{toZ-ofZ}
 use mir.Syntax.{w64}
 use mir.Val.{Fits, SFits}
@@ -13,8 +13,14 @@ use native.Mathlib.Omega.{arith}
 use Rattle.integers.proofs.Laws.{natAbs-add, sfits64}
 use Rattle.integers.proofs.Locals.{rd}
 use Rattle.integers.specs.Bounded.{amountLimit}
+use Rattle.integers.specs.declared.Pence.{Pence}
+use Rattle.language.proofs.Acceptance.{no-answer}
 use Rattle.nodes.proofs.Signed.{natOf-known}
 use Rattle.nodes.specs.Table.{natOf}
+use Rattle.tables.specs.Lookup.{foundAnswer, standing}
+use Rattle.tables.specs.declared.lookup.Found.{Found}
+use Rattle.tables.specs.declared.lookup.Found.the-variants.{Outside, Value}
+use Rattle.tables.specs.declared.lookup.Place.the-variants.{At}
 use Rattle.amounts.specs.Fine.{Divides, MonthIn, Reading}
 
 pub month-is : (m : ℤ) → T (nonNeg m) → m ≡ pos (natOf m)
@@ -54,3 +60,13 @@ divisor-positive (negsuc n) h = absurd (omega (arith, h .some))
 pub divisor-is : (z : ℤ) → Divides (natOf z) → natAbs z ≡ natOf z
 divisor-is (pos n) h = refl
 divisor-is (negsuc n) h = absurd (omega (arith, h .some))
+
+-- what a lookup finds at a place
+module _ (values : List ℤ) (i : ℕ) (r : Found) (e : foundAnswer r ≡ standing values (At i)) where
+  pub found-is : (p : Pence) → r ≡ Value p → p .0 ≡ getD values i (pos 0)
+  unfolding foundAnswer standing
+  found-is p q = let z = ap foundAnswer (sym q) ∙ e in cc
+
+  pub never-outside : r ≡ Outside → ⊥
+  unfolding foundAnswer standing
+  never-outside q = no-answer (ap foundAnswer (sym q) ∙ e)

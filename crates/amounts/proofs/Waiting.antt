@@ -24,7 +24,7 @@ use Rattle.amounts.specs.declared.wait.Wait.the-variants.{Held, Missed}
 -- ---- one step of the definition
 
 module _ (t : ℕ → Bool) (r : ℕ) where
-  tried-now : (d : ℕ) → t r ≡ true → tried t d r ≡ hit r
+  pub tried-now : (d : ℕ) → t r ≡ true → tried t d r ≡ hit r
   unfolding tried
   tried-now zero e = rw e
   tried-now (suc d) e = rw e
@@ -33,7 +33,7 @@ module _ (t : ℕ → Bool) (r : ℕ) where
   unfolding tried
   tried-last d z e = rw (z, e)
 
-  tried-next : (d : ℕ) → 0 < d → t r ≡ false → tried t d r ≡ tried t (d - 1) (r + 1)
+  pub tried-next : (d : ℕ) → 0 < d → t r ≡ false → tried t d r ≡ tried t (d - 1) (r + 1)
   unfolding tried
   tried-next zero h e = absurd (omega arith)
   tried-next (suc d) h e =
@@ -42,12 +42,12 @@ module _ (t : ℕ → Bool) (r : ℕ) where
 
 -- ---- months
 
-order : (a b : ℤ) → T (nonNeg a) → T (nonNeg b) → ltZ a b ≡ true → natOf a < natOf b
+pub order : (a b : ℤ) → T (nonNeg a) → T (nonNeg b) → ltZ a b ≡ true → natOf a < natOf b
 order (pos a) (pos b) h k e = omega (arith, lt-true (pos a) (pos b) e)
 order (pos a) (negsuc b) h k e = absurd k
 order (negsuc a) b h k e = absurd h
 
-not-order : (a b : ℤ) → T (nonNeg a) → T (nonNeg b) → ltZ a b ≡ false → natOf b ≤ natOf a
+pub not-order : (a b : ℤ) → T (nonNeg a) → T (nonNeg b) → ltZ a b ≡ false → natOf b ≤ natOf a
 not-order (pos a) (pos b) h k e = omega (arith, lt-false (pos a) (pos b) e)
 not-order (pos a) (negsuc b) h k e = absurd k
 not-order (negsuc a) b h k e = absurd h
@@ -74,14 +74,14 @@ pub record Waiting (t : ℕ → Bool) (first last month : ℤ) : Type 0 where
   pub same : tried t (natOf last - natOf first) (natOf first) ≡ tried t (natOf last - natOf month) (natOf month)
 
 module _ (t : ℕ → Bool) (first d last : ℤ) (h : MonthsIn first d) (e : last ≡ first +ℤ d) where
-  until : Later first d last
+  pub until : Later first d last
   until = later-is first d last (h .first-known) (h .delay-known) e
 
   pub start : Waiting t first last first
   start = record { known = h .first-known; begun = omega arith; within = omega (arith, until .is); same = refl }
 
   module _ (month : ℤ) (w : Waiting t first last month) where
-    all : tried t (natOf d) (natOf first) ≡ tried t (natOf last - natOf month) (natOf month)
+    pub all : tried t (natOf d) (natOf first) ≡ tried t (natOf last - natOf month) (natOf month)
     all =
         let z : natOf d ≡ natOf last - natOf first = omega (arith, until .is) in
         rw z (w .same)

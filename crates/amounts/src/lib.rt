@@ -11,6 +11,9 @@ use integers::Pence;
 use nodes::AmountLetter;
 use nodes::TestLetter;
 
+pub mod four;
+pub mod four_rows;
+pub mod fours;
 pub mod rows;
 pub mod wait;
 

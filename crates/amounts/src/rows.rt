@@ -9,6 +9,8 @@ ghost use Rattle.amounts.specs.Fine.{Divides, MonthIn, Reading};
 use integers::Month;
 use integers::Pence;
 use tables::lookup;
+use tables::lookup::Found;
+use tables::lookup::Place;
 
 // The number of an `N`.
 pub fn number(nodes: &[i64; 2560], at: usize) -> Pence
@@ -25,7 +27,11 @@ pub fn reading(nodes: &[i64; 2560], values: &[i64], month: Month, at: usize) -> 
 {
     let place = nodes::slot(nodes, at, 2);
     let i = (month.0 + place) as usize;
-    lookup::value_at(values, i)
+    let found = lookup::lookup(values, Place::At(i));
+    let Found::Value(value) = found else {
+        return Pence(0);
+    };
+    value
 }
 
 // An amount divided by the number of a `Q`.

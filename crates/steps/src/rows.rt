@@ -80,7 +80,7 @@ fn value_in(values: &[i64], bounds: &[i64], span: Span, label: usize, month: Mon
     requires { ⌜ Kept (span .h) (span .f) (now bounds) (now values) × Small (month .0) ⌝ }
     ensures { λ r. ⌜ r .0 ≡ valueAt (readTable (span .h) (span .f) (now (bounds .entry)) (now (values .entry))) label (month .0) ⌝ }
 {
-    let found = lookup::lookup(values, bounds, span, label, month);
+    let found = lookup::labelled(values, bounds, span, label, month);
     let Found::Value(value) = found else {
         return Pence(0);
     };

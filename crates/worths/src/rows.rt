@@ -73,7 +73,7 @@ pub fn reading(
         (refused 11) ⌝ }
 {
     let month = integers::later(waited, month_at(nodes, at, 2));
-    let found = lookup::lookup(values, bounds, span, label(nodes, at), month);
+    let found = lookup::labelled(values, bounds, span, label(nodes, at), month);
     match found {
         Found::Value(p) => Valued::Value(p),
         Found::Outside => Valued::Refused(Refusal::Reads),

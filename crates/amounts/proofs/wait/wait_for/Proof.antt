@@ -1,12 +1,14 @@
 use Prim.Native.Nat.{_-_}
 use borrow.Author.Needs.{needs}
-use mathlib.Core.Path.{_∙_, sym}
+use mathlib.Core.Path.{refl}
 use mir.Syntax.{w64}
 use mir.Val.{SFits}
 use native.Mathlib.Omega.{arith}
 use Rattle.language.specs.Payments.Amounts.{holds}
 use Rattle.nodes.specs.Found.{offsetOf, testAt}
 use Rattle.nodes.specs.Table.{natOf}
+use Rattle.amounts.proofs.FourMonths.{few-small}
+use Rattle.amounts.proofs.FourWaits as fours
 use Rattle.amounts.proofs.Waiting as waiting
 use Rattle.amounts.proofs.wait.wait_for.Statement.{statement}
 use Rattle.amounts.proofs.wait.wait_for.Tie as tie
@@ -26,61 +28,105 @@ later-requires c κs =
 loop-holds : tie.Need-loop-holds Inv-loop μ-loop
 loop-holds c = waiting.start _ _ _ _ (c .before .pre .0) (c .later .ensures)
 
-test-holds-requires : tie.Need-test-holds-requires Inv-loop μ-loop
-test-holds-requires c κs =
-    let p = c .before .before .pre in
-    let e = c .before .later .ensures in
-    let i = c .loop .inv in
-    (waiting.month-in _ _ _ _ (p .0) e _ i, p .1, p .2 .fine _ (i .begun) (waiting.tried-month _ _ _ _ (p .0) e _ i))
-
 later-requires-2 : tie.Need-later-requires-2 Inv-loop μ-loop
 later-requires-2 c κs =
-    let p = c .before .before .before .before .pre in
-    let e = c .before .before .before .later .ensures in
-    let i = c .before .before .loop .inv in
-    (waiting.month-small _ _ _ _ (p .0) e _ i, waiting.small-month _ tt (omega arith))
+    let p = c .before .before .pre in
+    (waiting.month-small _ _ _ _ (p .0) (c .before .later .ensures) _ (c .loop .inv), few-small 4 (omega arith))
+
+between-requires : tie.Need-between-requires Inv-loop μ-loop
+between-requires c κs =
+    let p = c .before .before .before .before .before .before .before .before .pre in
+    let e = c .before .before .before .before .before .before .before .later .ensures in
+    let i = c .before .before .before .before .before .before .loop .inv in
+    let fl : SFits w64 (c .before .before .before .before .before .before .before .later .result .0) = search needs in
+    let fn : SFits w64 (c .before .before .before .before .before .later2 .result .0) = search needs in
+    fours.rest-small _ _ _ _ (p .0) e _ i _ (c .before .before .before .before .before .later2 .ensures) fl fn _ refl
+
+wait-singly-requires : tie.Need-wait-singly-requires Inv-loop μ-loop
+wait-singly-requires c κs =
+    let p = c .before .before .before .before .before .before .before .before .before .pre in
+    let e = c .before .before .before .before .before .before .before .before .later .ensures in
+    let i = c .before .before .before .before .before .before .before .loop .inv in
+    let fl : SFits w64 (c .before .before .before .before .before .before .before .before .later .result .0) = search needs in
+    let fn : SFits w64 (c .before .before .before .before .before .before .later2 .result .0) = search needs in
+    let r = c .between .ensures in
+    (fours.rest-months _ _ _ _ (p .0) e _ i _ (c .before .before .before .before .before .before .later2 .ensures) fl fn _ r, p .1, fours.rest-fine _ _ _ _ (p .0) e _ i _ (c .before .before .before .before .before .before .later2 .ensures) fl fn _ r _ _ (p .2))
+
+tests-requires : tie.Need-tests-requires Inv-loop μ-loop
+tests-requires c κs =
+    let p = c .before .before .before .before .before .before .before .before .pre in
+    let e = c .before .before .before .before .before .before .before .later .ensures in
+    let i = c .before .before .before .before .before .before .loop .inv in
+    let fl : SFits w64 (c .before .before .before .before .before .before .before .later .result .0) = search needs in
+    let fn : SFits w64 (c .before .before .before .before .before .later2 .result .0) = search needs in
+    (fours.four-in _ _ _ _ (p .0) e _ i _ (c .before .before .before .before .before .later2 .ensures) fl fn (c .if1 .left), p .1, fours.four-fine _ _ _ _ (p .0) e _ i _ (c .before .before .before .before .before .later2 .ensures) fl fn (c .if1 .left) _ _ (p .2))
+
+first-held-requires : tie.Need-first-held-requires Inv-loop μ-loop
+first-held-requires c κs = tt
+
+later-requires-3 : tie.Need-later-requires-3 Inv-loop μ-loop
+later-requires-3 c κs =
+    let p = c .before .before .before .before .before .before .before .before .before .before .before .before .before .pre in
+    let e = c .before .before .before .before .before .before .before .before .before .before .before .before .later .ensures in
+    let i = c .before .before .before .before .before .before .before .before .before .before .before .loop .inv in
+    let fl : SFits w64 (c .before .before .before .before .before .before .before .before .before .before .before .before .later .result .0) = search needs in
+    let fn : SFits w64 (c .before .before .before .before .before .before .before .before .before .before .later2 .result .0) = search needs in
+    let fk : SFits w64 (c .before .before .before .first-held .result .0) = search needs in
+    (waiting.month-small _ _ _ _ (p .0) e _ i, fours.first-small _ _ _ _ (p .0) e _ i _ (c .before .before .before .before .before .before .before .before .before .before .later2 .ensures) fl fn (c .before .before .before .before .before .if1 .left) _ (c .before .before .before .before .tests .ensures) _ (c .before .before .before .first-held .ensures) fk (c .if2 .taken))
 
 loop-less : tie.Need-loop-less Inv-loop μ-loop
 loop-less c =
-    let p = c .before .before .before .before .before .before .before .before .before .before .pre in
-    let e = c .before .before .before .before .before .before .before .before .before .later .ensures in
-    let i = c .before .before .before .before .before .before .before .before .loop .inv in
-    let n = sym (c .before .before .before .before .before .before .before .test-holds .ensures) ∙ c .before .before .before .before .before .before .if1 .left in
-    let x = c .before .before .before .before .before .later2 .ensures in
-    let fl : SFits w64 (c .before .before .before .before .before .before .before .before .before .later .result .0) = search needs in
-    let fn : SFits w64 (c .before .before .before .before .before .later2 .result .0) = search needs in
-    waiting.falls _ _ _ _ (p .0) e _ i n _ x fl fn (c .if2 .left)
+    let p = c .before .before .before .before .before .before .before .before .before .before .before .before .before .pre in
+    let e = c .before .before .before .before .before .before .before .before .before .before .before .before .later .ensures in
+    let i = c .before .before .before .before .before .before .before .before .before .before .before .loop .inv in
+    let fl : SFits w64 (c .before .before .before .before .before .before .before .before .before .before .before .before .later .result .0) = search needs in
+    let fn : SFits w64 (c .before .before .before .before .before .before .before .before .before .before .later2 .result .0) = search needs in
+    fours.falls _ _ _ _ (p .0) e _ i _ (c .before .before .before .before .before .before .before .before .before .before .later2 .ensures) fl fn (c .before .before .before .before .before .if1 .left)
 
 loop-again : tie.Need-loop-again Inv-loop μ-loop
 loop-again c =
-    let p = c .before .before .before .before .before .before .before .before .before .before .pre in
-    let e = c .before .before .before .before .before .before .before .before .before .later .ensures in
-    let i = c .before .before .before .before .before .before .before .before .loop .inv in
-    let n = sym (c .before .before .before .before .before .before .before .test-holds .ensures) ∙ c .before .before .before .before .before .before .if1 .left in
-    let x = c .before .before .before .before .before .later2 .ensures in
-    let fl : SFits w64 (c .before .before .before .before .before .before .before .before .before .later .result .0) = search needs in
-    let fn : SFits w64 (c .before .before .before .before .before .later2 .result .0) = search needs in
-    waiting.again _ _ _ _ (p .0) e _ i n _ x fl fn (c .if2 .left)
+    let p = c .before .before .before .before .before .before .before .before .before .before .before .before .before .pre in
+    let e = c .before .before .before .before .before .before .before .before .before .before .before .before .later .ensures in
+    let i = c .before .before .before .before .before .before .before .before .before .before .before .loop .inv in
+    let fl : SFits w64 (c .before .before .before .before .before .before .before .before .before .before .before .before .later .result .0) = search needs in
+    let fn : SFits w64 (c .before .before .before .before .before .before .before .before .before .before .later2 .result .0) = search needs in
+    let fk : SFits w64 (c .before .before .before .first-held .result .0) = search needs in
+    fours.again _ _ _ _ (p .0) e _ i _ (c .before .before .before .before .before .before .before .before .before .before .later2 .ensures) fl fn (c .before .before .before .before .before .if1 .left) _ (c .before .before .before .before .tests .ensures) _ (c .before .before .before .first-held .ensures) fk (c .if2 .left)
 
 returns : tie.Need-returns Inv-loop μ-loop
 returns c =
-    let p = c .before .before .before .before .pre in
-    let e = c .before .before .before .later .ensures in
-    let i = c .before .before .loop .inv in
-    waiting.held _ _ _ _ (p .0) e _ i (sym (c .before .test-holds .ensures) ∙ c .if1 .taken)
-
-returns-2 : tie.Need-returns-2 Inv-loop μ-loop
-returns-2 c =
     let p = c .before .before .before .before .before .before .before .before .before .before .pre in
     let e = c .before .before .before .before .before .before .before .before .before .later .ensures in
     let i = c .before .before .before .before .before .before .before .before .loop .inv in
-    let n = sym (c .before .before .before .before .before .before .before .test-holds .ensures) ∙ c .before .before .before .before .before .before .if1 .left in
-    let x = c .before .before .before .before .before .later2 .ensures in
     let fl : SFits w64 (c .before .before .before .before .before .before .before .before .before .later .result .0) = search needs in
-    let fn : SFits w64 (c .before .before .before .before .before .later2 .result .0) = search needs in
-    waiting.missed _ _ _ _ (p .0) e _ i n _ x fl fn (c .if2 .taken)
+    let fn : SFits w64 (c .before .before .before .before .before .before .before .later2 .result .0) = search needs in
+    fours.rest-waits _ _ _ _ (p .0) e _ i _ (c .before .before .before .before .before .before .before .later2 .ensures) fl fn _ (c .before .between .ensures) _ (c .wait-singly .ensures)
+
+returns-2 : tie.Need-returns-2 Inv-loop μ-loop
+returns-2 c =
+    let p = c .before .before .before .before .before .before .before .before .before .before .before .before .before .before .pre in
+    let e = c .before .before .before .before .before .before .before .before .before .before .before .before .before .later .ensures in
+    let i = c .before .before .before .before .before .before .before .before .before .before .before .before .loop .inv in
+    let fl : SFits w64 (c .before .before .before .before .before .before .before .before .before .before .before .before .before .later .result .0) = search needs in
+    let fn : SFits w64 (c .before .before .before .before .before .before .before .before .before .before .before .later2 .result .0) = search needs in
+    let fk : SFits w64 (c .before .before .before .before .first-held .result .0) = search needs in
+    fours.held _ _ _ _ (p .0) e _ i _ (c .before .before .before .before .before .before .before .before .before .before .before .later2 .ensures) fl fn (c .before .before .before .before .before .before .if1 .left) _ (c .before .before .before .before .before .tests .ensures) _ (c .before .before .before .before .first-held .ensures) fk (c .before .if2 .taken) _ (c .later3 .ensures)
 
 pub wait-for-spec : {M : Type 1} → statement M
 wait-for-spec =
     tie.close
-    (tie.spec Inv-loop μ-loop later-requires loop-holds test-holds-requires later-requires-2 loop-less loop-again returns returns-2)
+    (tie.spec
+    Inv-loop
+    μ-loop
+    later-requires
+    loop-holds
+    later-requires-2
+    between-requires
+    wait-singly-requires
+    tests-requires
+    first-held-requires
+    later-requires-3
+    loop-less
+    loop-again
+    returns
+    returns-2)

@@ -5,8 +5,8 @@ use borrow.Author.Needs.{needs}
 use Rattle.steps.proofs.rows.value_in.Statement.{statement}
 use Rattle.steps.proofs.rows.value_in.Tie as tie
 
-lookup-requires : tie.Need-lookup-requires
-lookup-requires c κs = search needs
+labelled-requires : tie.Need-labelled-requires
+labelled-requires c κs = search needs
 
 enum-known-found : tie.Need-enum-known-found
 enum-known-found c = search needs
@@ -17,12 +17,12 @@ enum-told c = search needs
 returns : tie.Need-returns
 returns c =
     let a = c .before .before .before .args in
-    no-value (readTable (a .span .h) (a .span .f) (a .bounds .now) (a .values .now)) (a .label) (a .month .0) (ap foundAnswer (sym (c .enum-told .given .1)) ∙ c .before .before .lookup .ensures)
+    no-value (readTable (a .span .h) (a .span .f) (a .bounds .now) (a .values .now)) (a .label) (a .month .0) (ap foundAnswer (sym (c .enum-told .given .1)) ∙ c .before .before .labelled .ensures)
 
 returns-2 : tie.Need-returns-2
 returns-2 c =
     let a = c .before .before .before .before .args in
-    is-value (readTable (a .span .h) (a .span .f) (a .bounds .now) (a .values .now)) (a .label) (a .month .0) _ (ap foundAnswer (sym (c .before .found .given .1)) ∙ c .before .before .before .lookup .ensures)
+    is-value (readTable (a .span .h) (a .span .f) (a .bounds .now) (a .values .now)) (a .label) (a .month .0) _ (ap foundAnswer (sym (c .before .found .given .1)) ∙ c .before .before .before .labelled .ensures)
 
 pub value-in-spec : {M : Type 1} → statement M
-value-in-spec = tie.close (tie.spec lookup-requires enum-known-found enum-told returns returns-2)
+value-in-spec = tie.close (tie.spec labelled-requires enum-known-found enum-told returns returns-2)

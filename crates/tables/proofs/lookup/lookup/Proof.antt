@@ -1,108 +1,28 @@
-use Prim.Native.Nat.{_*_, _+_, _<_}
 use borrow.Author.Needs.{needs}
-use lib.IntN.{_+ℤ_, natAbs, pos}
-use lib.ListN.{getD}
-use mathlib.Core.Path.{_∙_, ap, ap₂, refl}
-use mir.Facts.{toZ-ofZ}
-use mir.Syntax.{w64}
-use mir.Val.{SFits}
-use native.Mathlib.Omega.{arith}
-use Rattle.nodes.proofs.Signed.{index-cast}
-use Rattle.tables.proofs.Lookups.{few, found, from-zero, in-values, no-label, too-early, too-late}
-use Rattle.tables.proofs.lookup.lookup.Lts as lts
-use Rattle.tables.proofs.lookup.lookup.Reads as reads
+use lib.ListN.{length}
+use mathlib.Core.Path.{_∙_, ap, subst, sym}
+use Rattle.language.specs.Answer.{got}
 use Rattle.tables.proofs.lookup.lookup.Statement.{statement}
 use Rattle.tables.proofs.lookup.lookup.Tie as tie
+use Rattle.tables.specs.Lookup.{Inside, foundAnswer, standing}
 
-months-requires : tie.Need-months-requires
-months-requires c κs = c .before .pre .0 .span
-
-later-requires : tie.Need-later-requires
-later-requires c κs =
-    let s = c .before .before in
-    let a = s .args in
-    let h : SFits w64 (a .span .h) = search needs in
-    (s .pre .1, rw (toZ-ofZ h) (record { small = omega (arith, s .pre .0 .span .hTo) }))
-
-returns : tie.Need-returns
-returns c =
-    let s = c .before .before .before .before in
-    let a = s .args in
-    no-label (a .span .h) (a .span .f) (a .bounds .now) (a .values .now) (s .pre .0) (a .label) (a .month .0) (c .if1 .taken)
-
-returns-2 : tie.Need-returns-2
-returns-2 c =
-    let s = c .before .before .before .before .before .before .before in
-    let a = s .args in
-    let h : SFits w64 (a .span .h) = search needs in
-    let p = c .before .before .before .before .later in
-    let g : SFits w64 (p .result .0) = search needs in
-    let e = p .ensures ∙ ap (λ z. a .month .0 +ℤ z) (toZ-ofZ h) in
-    too-early (a .span .h) (a .span .f) (a .bounds .now) (a .values .now) (s .pre .0) (a .label) (a .month .0) (omega (arith, c .before .before .before .if1 .left)) _ e (rw (toZ-ofZ g) at (c .if2 .taken))
-
-cast-at : tie.Need-cast-at
-cast-at c =
-    let s = c .before .before .before .before .before .before .before .before .before in
-    let a = s .args in
-    let h : SFits w64 (a .span .h) = search needs in
-    let p = c .before .before .before .before .before .before .later in
-    let g : SFits w64 (p .result .0) = search needs in
-    let e = p .ensures ∙ ap (λ z. a .month .0 +ℤ z) (toZ-ofZ h) in
-    index-cast _ _ g refl (from-zero (a .span .h) (a .span .f) (a .bounds .now) (a .values .now) (s .pre .0) (a .label) (a .month .0) (omega (arith, c .before .before .before .before .before .if1 .left)) _ e (rw (toZ-ofZ g) at (c .before .before .if2 .left)))
-
-returns-3 : tie.Need-returns-3
-returns-3 c =
-    let s = c .before .before .before .before .before .before .before .before .before .before in
-    let a = s .args in
-    let h : SFits w64 (a .span .h) = search needs in
-    let p = c .before .before .before .before .before .before .before .later in
-    let g : SFits w64 (p .result .0) = search needs in
-    let e = p .ensures ∙ ap (λ z. a .month .0 +ℤ z) (toZ-ofZ h) in
-    too-late (a .span .h) (a .span .f) (a .bounds .now) (a .values .now) (s .pre .0) (a .label) (a .month .0) (omega (arith, c .before .before .before .before .before .before .if1 .left)) _ e (rw (toZ-ofZ g) at (c .before .before .before .if2 .left)) (omega (arith, c .if3 .taken, c .before .before .before .before .before .before .before .before .months .ensures, ap natAbs (toZ-ofZ g)))
-
-mul-value-at : tie.Need-mul-value-at
-mul-value-at c =
-    let s = c .before .before .before .before .before .before .before .before .before .before in
-    let a = s .args in
-    let h : SFits w64 (a .span .h) = search needs in
-    let p = c .before .before .before .before .before .before .before .later in
-    let g : SFits w64 (p .result .0) = search needs in
-    let e = p .ensures ∙ ap (λ z. a .month .0 +ℤ z) (toZ-ofZ h) in
-    let d : natAbs (p .result .0) < natAbs (a .span .h) + natAbs (a .span .f) + 1 = omega (arith, c .if3 .left, c .before .before .before .before .before .before .before .before .months .ensures, ap natAbs (toZ-ofZ g)) in
-    omega (arith, few (a .span .h) (a .span .f) (a .bounds .now) (a .values .now) (s .pre .0) (a .label) (a .month .0) (omega (arith, c .before .before .before .before .before .before .if1 .left)) _ e (rw (toZ-ofZ g) at (c .before .before .before .if2 .left)) d, ap (λ z. a .label * z) (c .before .before .before .before .before .before .before .before .months .ensures))
-
-add-value-at : tie.Need-add-value-at
-add-value-at c =
-    let s = c .before .before .before .before .before .before .before .before .before .before in
-    let a = s .args in
-    let h : SFits w64 (a .span .h) = search needs in
-    let p = c .before .before .before .before .before .before .before .later in
-    let g : SFits w64 (p .result .0) = search needs in
-    let e = p .ensures ∙ ap (λ z. a .month .0 +ℤ z) (toZ-ofZ h) in
-    let d : natAbs (p .result .0) < natAbs (a .span .h) + natAbs (a .span .f) + 1 = omega (arith, c .if3 .left, c .before .before .before .before .before .before .before .before .months .ensures, ap natAbs (toZ-ofZ g)) in
-    omega (arith, few (a .span .h) (a .span .f) (a .bounds .now) (a .values .now) (s .pre .0) (a .label) (a .month .0) (omega (arith, c .before .before .before .before .before .before .if1 .left)) _ e (rw (toZ-ofZ g) at (c .before .before .before .if2 .left)) d, ap (λ z. a .label * z) (c .before .before .before .before .before .before .before .before .months .ensures), ap natAbs (toZ-ofZ g))
+enum-known-place : tie.Need-enum-known-place
+enum-known-place c = search needs
 
 value-at-requires : tie.Need-value-at-requires
-value-at-requires c κs =
-    let s = c .before .before .before .before .before .before .before .before .before .before in
-    let a = s .args in
-    let h : SFits w64 (a .span .h) = search needs in
-    let p = c .before .before .before .before .before .before .before .later in
-    let g : SFits w64 (p .result .0) = search needs in
-    let e = p .ensures ∙ ap (λ z. a .month .0 +ℤ z) (toZ-ofZ h) in
-    let d : natAbs (p .result .0) < natAbs (a .span .h) + natAbs (a .span .f) + 1 = omega (arith, c .if3 .left, c .before .before .before .before .before .before .before .before .months .ensures, ap natAbs (toZ-ofZ g)) in
-    omega (arith, in-values (a .span .h) (a .span .f) (a .bounds .now) (a .values .now) (s .pre .0) (a .label) (a .month .0) (omega (arith, c .before .before .before .before .before .before .if1 .left)) _ e (rw (toZ-ofZ g) at (c .before .before .before .if2 .left)) d, ap (λ z. a .label * z) (c .before .before .before .before .before .before .before .before .months .ensures), ap natAbs (toZ-ofZ g))
+unfolding Inside
+value-at-requires c κs = subst (Inside (length (c .before .before .before .args .values .now))) (c .before .place .given .1) (c .before .before .before .pre)
 
-returns-4 : tie.Need-returns-4
-returns-4 c =
-    let s = c .before .before .before .before .before .before .before .before .before .before .before in
-    let a = s .args in
-    let h : SFits w64 (a .span .h) = search needs in
-    let p = c .before .before .before .before .before .before .before .before .later in
-    let g : SFits w64 (p .result .0) = search needs in
-    let e = p .ensures ∙ ap (λ z. a .month .0 +ℤ z) (toZ-ofZ h) in
-    let d : natAbs (p .result .0) < natAbs (a .span .h) + natAbs (a .span .f) + 1 = omega (arith, c .before .if3 .left, c .before .before .before .before .before .before .before .before .before .months .ensures, ap natAbs (toZ-ofZ g)) in
-    found (a .span .h) (a .span .f) (a .bounds .now) (a .values .now) (s .pre .0) (a .label) (a .month .0) (omega (arith, c .before .before .before .before .before .before .before .if1 .left)) _ e (rw (toZ-ofZ g) at (c .before .before .before .before .if2 .left)) d _ (c .value-at .ensures ∙ ap₂ (λ y z. getD (a .values .now) (a .label * y + natAbs z) (pos 0)) (c .before .before .before .before .before .before .before .before .before .months .ensures) (toZ-ofZ g))
+enum-told : tie.Need-enum-told
+enum-told c = search needs
+
+returns : tie.Need-returns
+unfolding foundAnswer standing
+returns c = ap got (c .value-at .ensures) ∙ ap (standing (c .before .before .before .before .args .values .now)) (sym (c .before .before .place .given .1))
+
+returns-2 : tie.Need-returns-2
+unfolding foundAnswer standing
+returns-2 c = ap (standing (c .before .before .args .values .now)) (sym (c .enum-told .given .1))
 
 pub lookup-spec : {M : Type 1} → statement M
-lookup-spec = tie.close (tie.spec months-requires later-requires returns returns-2 cast-at returns-3 mul-value-at add-value-at value-at-requires returns-4)
+lookup-spec = tie.close (tie.spec enum-known-place value-at-requires enum-told returns returns-2)
