@@ -158,7 +158,7 @@ pub fn stepped(
     match checking {
         Checking::Accepted(length, magnitude) => {
             places::place_rows(nodes, count, span);
-            let pence = pays::plan_pays(nodes, values, today, today, pair, 0, 32);
+            let pence = pays::due::plan_due(nodes, values, today, pair, 0, 32);
             let mut next = [0i64; 2560];
             let n = steps::step_plan(
                 nodes,

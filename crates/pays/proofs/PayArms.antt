@@ -21,11 +21,11 @@ use Rattle.pays.proofs.PlanParts.{held-is, missed-is, paid}
 
 -- what the node's plan pays
 module _ (values nodes : List ℤ) (sg : Sign) (r m left at : ℕ) where
-  abbrev whole : ℤ
+  abbrev pub whole : ℤ
   whole = pays (flat values) sg (planAt natOf left nodes at) r m
 
 module _ {values nodes : List ℤ} {sg : Sign} {r m left at : ℕ} where
-  by-letter : {l : PlanLetter} → PlanNode values nodes sg r m left at l → whole values nodes sg r m left at ≡ pays (flat values) sg (planOf nodes left at l) r m
+  pub by-letter : {l : PlanLetter} → PlanNode values nodes sg r m left at l → whole values nodes sg r m left at ≡ pays (flat values) sg (planOf nodes left at l) r m
   by-letter n = ap (λ x. pays (flat values) sg x r m) (n .tree)
 
   pub nothing-arm : PlanNode values nodes sg r m left at letter.Nothing → pos 0 ≡ whole values nodes sg r m left at

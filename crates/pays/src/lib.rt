@@ -15,6 +15,7 @@ use integers::Month;
 use integers::Pence;
 use nodes::PlanLetter;
 
+pub mod due;
 pub mod rows;
 pub mod transfer;
 

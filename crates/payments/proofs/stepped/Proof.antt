@@ -23,13 +23,13 @@ place-rows-requires c κs =
     let e : length (c .before .before .before .before .accept .last .0) ≡ 2560 = search needs in
     (omega (arith, standing-rows (s .pre .0 .standing)), span-in w, rows-in w)
 
-plan-pays-requires : tie.Need-plan-pays-requires
-plan-pays-requires c κs =
+plan-due-requires : tie.Need-plan-due-requires
+plan-due-requires c κs =
     let s = c .before .before .before .before .before .before .before .before .before in
     let a = s .args in
     let w = placing (a .pair .p) (a .pair .q) (c .before .before .before .before .before .before .accept .ensures) (s .pre .1) (c .before .before .before .before .checking .given .1) (s .pre .0 .standing) in
     let r = c .before .place-rows in
-    (today-is w, today-is w, pair-is w, stands w (r .last .0) (r .ensures), fine w (r .last .0) (r .ensures))
+    (today-is w, pair-is w, stands w (r .last .0) (r .ensures), fine w (r .last .0) (r .ensures))
 
 slice-aggregate-step-plan : tie.Need-slice-aggregate-step-plan
 slice-aggregate-step-plan c = search needs
@@ -72,9 +72,9 @@ returns c x y =
     let r = c .before .before .before .before .before .before .before .before .before .before .before .before .before .before .place-rows in
     let k = c .before .before .before .before .before .before .before .before .before .step-plan in
     let o = c .before .before .before .before .before .write-text in
-    let v = pence-are w (r .last .0) (r .ensures) (c .before .before .before .before .before .before .before .before .before .before .before .before .plan-pays .ensures) in (
+    let v = pence-are w (r .last .0) (r .ensures) (c .before .before .before .before .before .before .before .before .before .before .before .before .plan-due .ensures) in (
       buffer-is w (r .last .0) (r .ensures) _ _ _ (k .ensures .1) (a .out .now) (o .ensures .0),
-      with-bytes (c .before .before .before .before .before .before .before .before .before .before .before .before .plan-pays .result) _ ∙ answer-is w (r .last .0) (r .ensures) _ _ _ (k .ensures .1) (a .out .now) v _ (ap writtenAnswer (sym (c .before .written .given .1)) ∙ o .ensures .1),
+      with-bytes (c .before .before .before .before .before .before .before .before .before .before .before .before .plan-due .result) _ ∙ answer-is w (r .last .0) (r .ensures) _ _ _ (k .ensures .1) (a .out .now) v _ (ap writtenAnswer (sym (c .before .written .given .1)) ∙ o .ensures .1),
     )
 
 same-length-2 : tie.Need-same-length-2
@@ -88,9 +88,9 @@ returns-2 c x y =
     let r = c .before .before .before .before .before .before .before .before .before .before .before .before .before .place-rows in
     let k = c .before .before .before .before .before .before .before .before .step-plan in
     let o = c .before .before .before .before .write-text in
-    let v = pence-are w (r .last .0) (r .ensures) (c .before .before .before .before .before .before .before .before .before .before .before .plan-pays .ensures) in (
+    let v = pence-are w (r .last .0) (r .ensures) (c .before .before .before .before .before .before .before .before .before .before .before .plan-due .ensures) in (
       buffer-is w (r .last .0) (r .ensures) _ _ _ (k .ensures .1) (a .out .now) (o .ensures .0),
-      without-room (c .before .before .before .before .before .before .before .before .before .before .before .plan-pays .result) ∙ answer-is w (r .last .0) (r .ensures) _ _ _ (k .ensures .1) (a .out .now) v _ (ap writtenAnswer (sym (c .enum-told .given .1)) ∙ o .ensures .1),
+      without-room (c .before .before .before .before .before .before .before .before .before .before .before .plan-due .result) ∙ answer-is w (r .last .0) (r .ensures) _ _ _ (k .ensures .1) (a .out .now) v _ (ap writtenAnswer (sym (c .enum-told .given .1)) ∙ o .ensures .1),
     )
 
 returns-3 : tie.Need-returns-3
@@ -108,7 +108,7 @@ stepped-spec =
     accept-requires
     enum-known-checking
     place-rows-requires
-    plan-pays-requires
+    plan-due-requires
     slice-aggregate-step-plan
     step-plan-requires
     slice-aggregate-write-text
