@@ -30,7 +30,7 @@ use Rattle.amounts.specs.declared.wait.Wait.the-variants.{Held}
 
 -- ---- the first of four
 
-none-of-four : (h : four.Held) → 4 ≤ firstHeld h → (j : ℕ) → j < 4 → heldIn h j ≡ false
+pub none-of-four : (h : four.Held) → 4 ≤ firstHeld h → (j : ℕ) → j < 4 → heldIn h j ≡ false
 unfolding firstHeld heldIn
 none-of-four h l = go (h .a) (h .b) (h .c) (h .d) l
   where
@@ -44,7 +44,7 @@ none-of-four h l = go (h .a) (h .b) (h .c) (h .d) l
     go false false false false l (suc (suc zero)) m = refl
     go false false false false l (suc (suc (suc j))) m = refl
 
-first-of-four : (h : four.Held) → firstHeld h < 4 → (heldIn h (firstHeld h) ≡ true) × ((j : ℕ) → j < firstHeld h → heldIn h j ≡ false)
+pub first-of-four : (h : four.Held) → firstHeld h < 4 → (heldIn h (firstHeld h) ≡ true) × ((j : ℕ) → j < firstHeld h → heldIn h j ≡ false)
 unfolding firstHeld heldIn
 first-of-four h l = go (h .a) (h .b) (h .c) (h .d) l
   where
@@ -71,6 +71,15 @@ first-of-four h l = go (h .a) (h .b) (h .c) (h .d) l
         three (suc (suc zero)) m = refl
         three (suc (suc (suc j))) m = absurd (omega arith)
     go false false false false l = absurd (omega arith)
+
+-- ---- the months from one to a later one
+
+pub months-left : (a b rest : ℤ) → T (nonNeg a) → T (nonNeg b) → natOf b ≤ natOf a → rest ≡ a -ℤ b → T (nonNeg rest) × (natOf rest ≡ natOf a - natOf b)
+months-left (pos x) (pos y) rest ha hb l q =
+    let z : rest ≡ pos (x - y) = q ∙ ring (lit x ⊖ lit y) (lit (x - y)) (omega arith) in
+    rw z (tt, refl)
+months-left (pos x) (negsuc y) rest ha hb l q = absurd hb
+months-left (negsuc x) b rest ha hb l q = absurd ha
 
 -- ---- months in which the test fails are passed
 
@@ -101,14 +110,7 @@ module _ (t : ℕ → Bool) (first d last : ℤ) (h : MonthsIn first d) (e : las
   -- fewer than five months are left
   module _ (rest : ℤ) (er : rest ≡ last -ℤ month) where
     pub rest-is : T (nonNeg rest) × (natOf rest ≡ natOf last - natOf month)
-    rest-is = go last month (end .known) (w .known) (w .within) er
-      where
-        go : (a b : ℤ) → T (nonNeg a) → T (nonNeg b) → natOf b ≤ natOf a → rest ≡ a -ℤ b → T (nonNeg rest) × (natOf rest ≡ natOf a - natOf b)
-        go (pos x) (pos y) ha hb l q =
-            let z : rest ≡ pos (x - y) = q ∙ ring (lit x ⊖ lit y) (lit (x - y)) (omega arith) in
-            rw z (tt, refl)
-        go (pos x) (negsuc y) ha hb l q = absurd hb
-        go (negsuc x) b ha hb l q = absurd ha
+    rest-is = months-left last month rest (end .known) (w .known) (w .within) er
 
     pub rest-small : Small (last -ℤ month)
     rest-small = subst Small er (small-month rest (rest-is .0) (omega (arith, rest-is .1, end .is, h .within)))

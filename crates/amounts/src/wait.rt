@@ -46,7 +46,7 @@ fn wait_singly(
 }
 
 // How many months after the first of four a test first held, or 4.
-fn first_held(t: Held) -> Month
+pub fn first_held(t: Held) -> Month
     ensures { λ r. ⌜ r .0 ≡ pos (firstHeld t) ⌝ }
 {
     if t.a {
@@ -65,7 +65,7 @@ fn first_held(t: Held) -> Month
 }
 
 // The months from one to a later one.
-fn between(month: Month, last: Month) -> Month
+pub fn between(month: Month, last: Month) -> Month
     requires { ⌜ Small (last .0 -ℤ month .0) ⌝ }
     ensures { λ r. ⌜ r .0 ≡ last .0 -ℤ month .0 ⌝ }
 {

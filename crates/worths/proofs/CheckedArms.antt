@@ -96,6 +96,11 @@ module _ (h f : ℤ) (bounds values nodes : List ℤ) (w left at : ℕ) where
     pub refused-arm : {k : ℕ} → testChild (at + 1) ≡ refused k → refused k ≡ amountHere
     refused-arm e = sym (chosen e)
 
+    -- both branches worked out, and one taken
+    pub choose-arm : (b : Bool) {x y z : ℤ} {p q : ℕ} → got b ≡ testChild (at + 1) → p ≡ linkAt nodes at 3 → got x ≡ child p → q ≡ linkAt nodes at 4 → got y ≡ child q → z ≡ cond b x y → got z ≡ amountHere
+    choose-arm true eb ep ex eq ey ez = then-arm (sym eb) ep (ap got ez ∙ ex)
+    choose-arm false eb ep ex eq ey ez = else-arm (sym eb) eq (ap got ez ∙ ey)
+
   pub no-amount-arm : AmountNode nodes left at amount.NoAmount → got (pos 0) ≡ amountHere
   unfolding checkedValue
   no-amount-arm n = sym (by-amount n ∙ in-range maxAmount (pos 0) (omega arith))

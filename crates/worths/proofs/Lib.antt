@@ -3,6 +3,8 @@ pub mod Bounds
 pub mod CheckedArms
 pub mod CheckedNodes
 pub mod Combined
+pub mod FourLaws
+pub mod FourWaits
 pub mod LeafLaws
 pub mod RowAnswers
 pub mod WaitLoop

@@ -1,7 +1,7 @@
 -- The loop of a wait with refusals: what holds before each try.
 use Prim.Native.Nat.{_+_, _-_, _<_, _≤_, suc, zero, ℕ}
 use lib.Dec.{T}
-use lib.IntN.{_+ℤ_, negsuc, pos, ℤ}
+use lib.IntN.{_+ℤ_, pos, ℤ}
 use lib.Signed.{ltZ, nonNeg}
 use mathlib.Core.Bool.{Bool, false, true}
 use mathlib.Core.Path.{_∙_, _≡_, ap, refl, sym}
@@ -10,9 +10,8 @@ use mir.Syntax.{w64}
 use mir.Val.{SFits}
 use native.Mathlib.Numerals.{add-one}
 use native.Mathlib.Omega.{arith}
-use Rattle.amounts.proofs.Waiting.{Later, later-is}
+use Rattle.amounts.proofs.Waiting.{Later, later-is, not-order, order}
 use Rattle.integers.proofs.Locals.{rd}
-use Rattle.integers.proofs.Tests.{lt-false, lt-true}
 use Rattle.integers.specs.Bounded.{Small}
 use Rattle.language.specs.Answer.{Answer, got, refused}
 use Rattle.language.specs.Limits.{maxMonth}
@@ -30,7 +29,7 @@ use Rattle.worths.specs.declared.wait.Wait.the-variants.{Held, Missed, R
 -- ---- one step of the definition
 
 module _ (t : ℕ → Answer Bool) (r : ℕ) where
-  tried-now : (d : ℕ) → t r ≡ got true → checkedTried t d r ≡ got (hit r)
+  pub tried-now : (d : ℕ) → t r ≡ got true → checkedTried t d r ≡ got (hit r)
   unfolding checkedTried
   tried-now zero e = rw e refl
   tried-now (suc d) e = rw e refl
@@ -44,7 +43,7 @@ module _ (t : ℕ → Answer Bool) (r : ℕ) where
   unfolding checkedTried
   tried-last d z e = rw (z, e) refl
 
-  tried-next : (d : ℕ) → 0 < d → t r ≡ got false → checkedTried t d r ≡ checkedTried t (d - 1) (r + 1)
+  pub tried-next : (d : ℕ) → 0 < d → t r ≡ got false → checkedTried t d r ≡ checkedTried t (d - 1) (r + 1)
   unfolding checkedTried
   tried-next zero h e = absurd (omega arith)
   tried-next (suc d) h e =
@@ -52,16 +51,6 @@ module _ (t : ℕ → Answer Bool) (r : ℕ) where
       rw (e, z, add-one) refl
 
 -- ---- months
-
-order : (a b : ℤ) → T (nonNeg a) → T (nonNeg b) → ltZ a b ≡ true → natOf a < natOf b
-order (pos a) (pos b) h k e = omega (arith, lt-true (pos a) (pos b) e)
-order (pos a) (negsuc b) h k e = absurd k
-order (negsuc a) b h k e = absurd h
-
-not-order : (a b : ℤ) → T (nonNeg a) → T (nonNeg b) → ltZ a b ≡ false → natOf b ≤ natOf a
-not-order (pos a) (pos b) h k e = omega (arith, lt-false (pos a) (pos b) e)
-not-order (pos a) (negsuc b) h k e = absurd k
-not-order (negsuc a) b h k e = absurd h
 
 pub small-month : (m : ℤ) → T (nonNeg m) → natOf m ≤ maxMonth → Small m
 small-month m h l = record { small = omega (arith, natOf-known m h) }
@@ -75,18 +64,18 @@ pub record Waiting (t : ℕ → Answer Bool) (first last month : ℤ) : Type 0 w
   pub same : checkedTried t (natOf last - natOf first) (natOf first) ≡ checkedTried t (natOf last - natOf month) (natOf month)
 
 module _ (t : ℕ → Answer Bool) (first d last : ℤ) (h : WaitsIn first d) (e : last ≡ first +ℤ d) where
-  until : Later first d last
+  pub until : Later first d last
   until = later-is first d last (h .first-known) (h .delay-known) e
 
   pub start : Waiting t first last first
   start = record { known = h .first-known; within = omega (arith, until .is); same = refl }
 
   -- what the loop answers
-  abbrev Answers : Wait → Type 0
+  abbrev pub Answers : Wait → Type 0
   Answers r = (waitAnswer r ≡ checkedTried t (natOf d) (natOf first)) × WaitKnown r
 
   module _ (month : ℤ) (w : Waiting t first last month) where
-    all : checkedTried t (natOf d) (natOf first) ≡ checkedTried t (natOf last - natOf month) (natOf month)
+    pub all : checkedTried t (natOf d) (natOf first) ≡ checkedTried t (natOf last - natOf month) (natOf month)
     all =
         let z : natOf d ≡ natOf last - natOf first = omega (arith, until .is) in
         rw z (w .same)

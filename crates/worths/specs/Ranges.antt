@@ -22,6 +22,11 @@ pub record Waited (month : ℤ) : Type 0 where
   pub known : T (nonNeg month)
   pub within : natOf month ≤ maxMonth
 
+-- four months in a row of them
+pub record FourWaited (month : ℤ) : Type 0 where
+  pub known : T (nonNeg month)
+  pub within : natOf month + 3 ≤ maxMonth
+
 -- the same, so that each of the levels left may wait 600 more
 pub record WaitedAt (left : ℕ) (month : ℤ) : Type 0 where
   pub known : T (nonNeg month)

@@ -16,6 +16,8 @@ use nodes::TestLetter;
 use tables::Span;
 
 pub mod answers;
+pub mod four;
+pub mod fours;
 pub mod leaf;
 pub mod payoffs;
 pub mod rows;

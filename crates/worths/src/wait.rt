@@ -9,6 +9,7 @@ ghost use Rattle.worths.specs.Checked.{testIn};
 ghost use Rattle.worths.specs.Ranges.{Near, Readable};
 ghost use Rattle.worths.specs.Waits.{WaitKnown, WaitsIn, waitAnswer};
 use crate::answers::Tested;
+use crate::fours;
 use integers::Month;
 use tables::Span;
 use text::Refusal;
@@ -19,8 +20,8 @@ pub enum Wait {
     Refused(Refusal),
 }
 
-// The test at a node, tried with `first` months waited and each of the next d.
-pub fn wait_for(
+// The test at a node, tried with `first` months waited and each of the next d, one by one.
+fn wait_singly(
     nodes: &[i64; 2560],
     values: &[i64],
     bounds: &[i64],
@@ -43,15 +44,68 @@ pub fn wait_for(
                 break Wait::Held(month);
             }
             Tested::Fails => {
-                let next = integers::later(month, Month(1));
-                if last.0 < next.0 {
+                let following = integers::later(month, Month(1));
+                if last.0 < following.0 {
                     break Wait::Missed(last);
                 }
-                month = next;
+                month = following;
             }
             Tested::Refused(k) => {
                 break Wait::Refused(k);
             }
+        }
+    }
+}
+
+// The same, four at a time while all four come without a refusal, the others one by one.
+pub fn wait_for(
+    nodes: &[i64; 2560],
+    values: &[i64],
+    bounds: &[i64],
+    span: Span,
+    first: Month,
+    d: Month,
+    at: usize,
+    left: usize,
+) -> Wait
+    requires { ⌜ Readable (span .h) (span .f) (now bounds) (now values) × WaitsIn (first .0) (d .0) × TestStands left (now nodes) at × fieldsOfTest Near (testAt offsetOf left (now nodes) at) ⌝ }
+    ensures is { λ r. ⌜ waitAnswer r ≡ checkedTried (testIn (span .h) (span .f) (now (bounds .entry)) (now (values .entry)) (testAt offsetOf left (now (nodes .entry)) at)) (natOf (d .0)) (natOf (first .0)) ⌝ }
+    ensures known { λ r. ⌜ WaitKnown r ⌝ }
+{
+    let last = integers::later(first, d);
+    let mut month = first;
+    loop {
+        let next = integers::later(month, Month(4));
+        if last.0 < next.0 {
+            break wait_singly(
+                nodes,
+                values,
+                bounds,
+                span,
+                month,
+                amounts::wait::between(month, last),
+                at,
+                left,
+            );
+        }
+        let t = fours::tests(nodes, values, bounds, span, month, at, left);
+        if t.all {
+            let k = amounts::wait::first_held(t.held);
+            if k.0 < 4 {
+                break Wait::Held(integers::later(month, k));
+            }
+            month = next;
+        } else {
+            break wait_singly(
+                nodes,
+                values,
+                bounds,
+                span,
+                month,
+                amounts::wait::between(month, last),
+                at,
+                left,
+            );
         }
     }
 }

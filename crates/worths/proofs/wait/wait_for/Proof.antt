@@ -1,16 +1,17 @@
 use Prim.Native.Nat.{_-_}
 use borrow.Author.Needs.{needs}
-use mathlib.Core.Path.{_∙_, ap, sym}
+use mathlib.Core.Path.{refl}
 use mir.Syntax.{w64}
 use mir.Val.{SFits}
 use native.Mathlib.Omega.{arith}
+use Rattle.amounts.proofs.FourMonths.{few-small}
 use Rattle.nodes.specs.Found.{offsetOf, testAt}
 use Rattle.nodes.specs.Table.{natOf}
+use Rattle.worths.proofs.FourWaits as fours
 use Rattle.worths.proofs.WaitLoop as waiting
-use Rattle.worths.specs.Answers.{testedAnswer}
-use Rattle.worths.specs.Checked.{testIn}
 use Rattle.worths.proofs.wait.wait_for.Statement.{statement}
 use Rattle.worths.proofs.wait.wait_for.Tie as tie
+use Rattle.worths.specs.Checked.{testIn}
 
 abbrev Inv-loop : tie.InvT-loop
 Inv-loop nodes values bounds span at left last month₀ month = waiting.Waiting (testIn (span .h) (span .f) bounds values (testAt offsetOf left nodes at)) (month₀ .0) (last .0) (month .0)
@@ -24,62 +25,105 @@ later-requires c κs =
     (waiting.small-month _ (p .1 .first-known) (omega (arith, p .1 .within)), waiting.small-month _ (p .1 .delay-known) (omega (arith, p .1 .within)))
 
 loop-holds : tie.Need-loop-holds Inv-loop μ-loop
-loop-holds c =
-    let p = c .before .pre in
-    waiting.start _ _ _ _ (p .1) (c .later .ensures)
-
-checked-holds-requires : tie.Need-checked-holds-requires Inv-loop μ-loop
-checked-holds-requires c κs =
-    let p = c .before .before .pre in
-    (p .0, waiting.month-in _ _ _ _ (p .1) (c .before .later .ensures) _ (c .loop .inv), p .2, p .3)
-
-enum-told : tie.Need-enum-told Inv-loop μ-loop
-enum-told c = search needs
-
-enum-told-2 : tie.Need-enum-told-2 Inv-loop μ-loop
-enum-told-2 c = search needs
+loop-holds c = waiting.start _ _ _ _ (c .before .pre .1) (c .later .ensures)
 
 later-requires-2 : tie.Need-later-requires-2 Inv-loop μ-loop
 later-requires-2 c κs =
-    let p = c .before .before .before .before .before .pre in
-    (waiting.month-small _ _ _ _ (p .1) (c .before .before .before .before .later .ensures) _ (c .before .before .before .loop .inv), waiting.small-month _ tt (omega arith))
+    let p = c .before .before .pre in
+    (waiting.month-small _ _ _ _ (p .1) (c .before .later .ensures) _ (c .loop .inv), few-small 4 (omega arith))
+
+between-requires : tie.Need-between-requires Inv-loop μ-loop
+between-requires c κs =
+    let p = c .before .before .before .before .before .before .before .before .pre in
+    let e = c .before .before .before .before .before .before .before .later .ensures in
+    let i = c .before .before .before .before .before .before .loop .inv in
+    fours.rest-small _ _ _ _ (p .1) e _ i _ refl
+
+wait-singly-requires : tie.Need-wait-singly-requires Inv-loop μ-loop
+wait-singly-requires c κs =
+    let p = c .before .before .before .before .before .before .before .before .before .pre in
+    let e = c .before .before .before .before .before .before .before .before .later .ensures in
+    let i = c .before .before .before .before .before .before .before .loop .inv in
+    (p .0, fours.rest-months _ _ _ _ (p .1) e _ i _ (c .between .ensures), p .2, p .3)
+
+tests-requires : tie.Need-tests-requires Inv-loop μ-loop
+tests-requires c κs =
+    let p = c .before .before .before .before .before .before .before .before .pre in
+    let e = c .before .before .before .before .before .before .before .later .ensures in
+    let i = c .before .before .before .before .before .before .loop .inv in
+    let fl : SFits w64 (c .before .before .before .before .before .before .before .later .result .0) = search needs in
+    let fn : SFits w64 (c .before .before .before .before .before .later2 .result .0) = search needs in
+    (p .0, fours.four-waited _ _ _ _ (p .1) e _ i _ (c .before .before .before .before .before .later2 .ensures) fl fn (c .if1 .left), p .2, p .3)
+
+first-held-requires : tie.Need-first-held-requires Inv-loop μ-loop
+first-held-requires c κs = tt
+
+later-requires-3 : tie.Need-later-requires-3 Inv-loop μ-loop
+later-requires-3 c κs =
+    let p = c .before .before .before .before .before .before .before .before .before .before .before .before .before .before .pre in
+    let e = c .before .before .before .before .before .before .before .before .before .before .before .before .before .later .ensures in
+    let i = c .before .before .before .before .before .before .before .before .before .before .before .before .loop .inv in
+    let fl : SFits w64 (c .before .before .before .before .before .before .before .before .before .before .before .before .before .later .result .0) = search needs in
+    let fn : SFits w64 (c .before .before .before .before .before .before .before .before .before .before .before .later2 .result .0) = search needs in
+    let fk : SFits w64 (c .before .before .before .first-held .result .0) = search needs in
+    (waiting.month-small _ _ _ _ (p .1) e _ i, fours.first-small _ _ _ _ (p .1) e _ i _ (c .before .before .before .before .before .before .before .before .before .before .before .later2 .ensures) fl fn (c .before .before .before .before .before .before .if1 .left) _ (c .before .before .before .before .before .tests .ensures (c .before .before .before .before .if2 .taken)) _ (c .before .before .before .first-held .ensures) fk (c .if3 .taken))
 
 loop-less : tie.Need-loop-less Inv-loop μ-loop
 loop-less c =
-    let p = c .before .before .before .before .before .before .before .before .before .before .before .pre in
-    let i = c .before .before .before .before .before .before .before .before .before .loop .inv in
-    let fl : SFits w64 (c .before .before .before .before .before .before .before .before .before .before .later .result .0) = search needs in
-    let fn : SFits w64 (c .before .before .before .before .before .later2 .result .0) = search needs in
-    waiting.falls _ _ _ _ (p .1) (c .before .before .before .before .before .before .before .before .before .before .later .ensures) _ i (sym (c .before .before .before .before .before .before .before .before .checked-holds .ensures) ∙ ap testedAnswer (c .before .before .before .before .before .before .enum-told2 .given .1)) _ (c .before .before .before .before .before .later2 .ensures) fl fn (c .if1 .left)
+    let p = c .before .before .before .before .before .before .before .before .before .before .before .before .before .before .pre in
+    let e = c .before .before .before .before .before .before .before .before .before .before .before .before .before .later .ensures in
+    let i = c .before .before .before .before .before .before .before .before .before .before .before .before .loop .inv in
+    let fl : SFits w64 (c .before .before .before .before .before .before .before .before .before .before .before .before .before .later .result .0) = search needs in
+    let fn : SFits w64 (c .before .before .before .before .before .before .before .before .before .before .before .later2 .result .0) = search needs in
+    fours.falls _ _ _ _ (p .1) e _ i _ (c .before .before .before .before .before .before .before .before .before .before .before .later2 .ensures) fl fn (c .before .before .before .before .before .before .if1 .left)
 
 loop-again : tie.Need-loop-again Inv-loop μ-loop
 loop-again c =
-    let p = c .before .before .before .before .before .before .before .before .before .before .before .pre in
-    let i = c .before .before .before .before .before .before .before .before .before .loop .inv in
-    let fl : SFits w64 (c .before .before .before .before .before .before .before .before .before .before .later .result .0) = search needs in
-    let fn : SFits w64 (c .before .before .before .before .before .later2 .result .0) = search needs in
-    waiting.again _ _ _ _ (p .1) (c .before .before .before .before .before .before .before .before .before .before .later .ensures) _ i (sym (c .before .before .before .before .before .before .before .before .checked-holds .ensures) ∙ ap testedAnswer (c .before .before .before .before .before .before .enum-told2 .given .1)) _ (c .before .before .before .before .before .later2 .ensures) fl fn (c .if1 .left)
+    let p = c .before .before .before .before .before .before .before .before .before .before .before .before .before .before .pre in
+    let e = c .before .before .before .before .before .before .before .before .before .before .before .before .before .later .ensures in
+    let i = c .before .before .before .before .before .before .before .before .before .before .before .before .loop .inv in
+    let fl : SFits w64 (c .before .before .before .before .before .before .before .before .before .before .before .before .before .later .result .0) = search needs in
+    let fn : SFits w64 (c .before .before .before .before .before .before .before .before .before .before .before .later2 .result .0) = search needs in
+    let fk : SFits w64 (c .before .before .before .first-held .result .0) = search needs in
+    fours.again _ _ _ _ (p .1) e _ i _ (c .before .before .before .before .before .before .before .before .before .before .before .later2 .ensures) fl fn (c .before .before .before .before .before .before .if1 .left) _ (c .before .before .before .before .before .tests .ensures (c .before .before .before .before .if2 .taken)) _ (c .before .before .before .first-held .ensures) fk (c .if3 .left)
 
-enum-known-t : tie.Need-enum-known-t Inv-loop μ-loop
-enum-known-t c = search needs
+between-requires-2 : tie.Need-between-requires-2 Inv-loop μ-loop
+between-requires-2 c κs =
+    let p = c .before .before .before .before .before .before .before .before .before .before .pre in
+    let e = c .before .before .before .before .before .before .before .before .before .later .ensures in
+    let i = c .before .before .before .before .before .before .before .before .loop .inv in
+    fours.rest-small _ _ _ _ (p .1) e _ i _ refl
+
+wait-singly-requires-2 : tie.Need-wait-singly-requires-2 Inv-loop μ-loop
+wait-singly-requires-2 c κs =
+    let p = c .before .before .before .before .before .before .before .before .before .before .before .pre in
+    let e = c .before .before .before .before .before .before .before .before .before .before .later .ensures in
+    let i = c .before .before .before .before .before .before .before .before .before .loop .inv in
+    (p .0, fours.rest-months _ _ _ _ (p .1) e _ i _ (c .between2 .ensures), p .2, p .3)
 
 returns : tie.Need-returns Inv-loop μ-loop
 returns c =
-    let p = c .before .before .before .before .before .pre in
-    waiting.held _ _ _ _ (p .1) (c .before .before .before .before .later .ensures) _ (c .before .before .before .loop .inv) (sym (c .before .before .checked-holds .ensures) ∙ ap testedAnswer (c .enum-told .given .1))
+    let p = c .before .before .before .before .before .before .before .before .before .before .pre in
+    let e = c .before .before .before .before .before .before .before .before .before .later .ensures in
+    let i = c .before .before .before .before .before .before .before .before .loop .inv in
+    fours.rest-waits _ _ _ _ (p .1) e _ i _ (c .before .between .ensures) (c .wait-singly .result) (c .wait-singly .ensures)
 
 returns-2 : tie.Need-returns-2 Inv-loop μ-loop
 returns-2 c =
-    let p = c .before .before .before .before .before .before .before .before .before .before .before .pre in
-    let i = c .before .before .before .before .before .before .before .before .before .loop .inv in
-    let fl : SFits w64 (c .before .before .before .before .before .before .before .before .before .before .later .result .0) = search needs in
-    let fn : SFits w64 (c .before .before .before .before .before .later2 .result .0) = search needs in
-    waiting.missed _ _ _ _ (p .1) (c .before .before .before .before .before .before .before .before .before .before .later .ensures) _ i (sym (c .before .before .before .before .before .before .before .before .checked-holds .ensures) ∙ ap testedAnswer (c .before .before .before .before .before .before .enum-told2 .given .1)) _ (c .before .before .before .before .before .later2 .ensures) fl fn (c .if1 .taken)
+    let p = c .before .before .before .before .before .before .before .before .before .before .before .before .before .before .before .pre in
+    let e = c .before .before .before .before .before .before .before .before .before .before .before .before .before .before .later .ensures in
+    let i = c .before .before .before .before .before .before .before .before .before .before .before .before .before .loop .inv in
+    let fl : SFits w64 (c .before .before .before .before .before .before .before .before .before .before .before .before .before .before .later .result .0) = search needs in
+    let fn : SFits w64 (c .before .before .before .before .before .before .before .before .before .before .before .before .later2 .result .0) = search needs in
+    let fk : SFits w64 (c .before .before .before .before .first-held .result .0) = search needs in
+    fours.held _ _ _ _ (p .1) e _ i _ (c .before .before .before .before .before .before .before .before .before .before .before .before .later2 .ensures) fl fn (c .before .before .before .before .before .before .before .if1 .left) _ (c .before .before .before .before .before .before .tests .ensures (c .before .before .before .before .before .if2 .taken)) _ (c .before .before .before .before .first-held .ensures) fk (c .before .if3 .taken) _ (c .later3 .ensures)
 
 returns-3 : tie.Need-returns-3 Inv-loop μ-loop
 returns-3 c =
-    let p = c .before .before .before .before .before .before .pre in
-    waiting.stopped _ _ _ _ (p .1) (c .before .before .before .before .before .later .ensures) _ (c .before .before .before .before .loop .inv) (c .before .t .given .0 .0) (sym (c .before .before .before .checked-holds .ensures) ∙ ap testedAnswer (c .before .t .given .1))
+    let p = c .before .before .before .before .before .before .before .before .before .before .before .before .pre in
+    let e = c .before .before .before .before .before .before .before .before .before .before .before .later .ensures in
+    let i = c .before .before .before .before .before .before .before .before .before .before .loop .inv in
+    fours.rest-waits _ _ _ _ (p .1) e _ i _ (c .before .between2 .ensures) (c .wait-singly2 .result) (c .wait-singly2 .ensures)
 
 pub wait-for-spec : {M : Type 1} → statement M
 wait-for-spec =
@@ -89,13 +133,16 @@ wait-for-spec =
     μ-loop
     later-requires
     loop-holds
-    checked-holds-requires
-    enum-told
-    enum-told-2
     later-requires-2
+    between-requires
+    wait-singly-requires
+    tests-requires
+    first-held-requires
+    later-requires-3
     loop-less
     loop-again
-    enum-known-t
+    between-requires-2
+    wait-singly-requires-2
     returns
     returns-2
     returns-3)

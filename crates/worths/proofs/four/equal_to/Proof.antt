@@ -1,0 +1,19 @@
+use borrow.Author.Needs.{needs}
+use Rattle.integers.specs.Equal.{eqZ}
+use Rattle.language.proofs.Truth.{and-e}
+use Rattle.worths.proofs.FourLaws.{tested}
+use Rattle.worths.proofs.four.equal_to.Statement.{statement}
+use Rattle.worths.proofs.four.equal_to.Tie as tie
+
+returns : tie.Need-returns
+returns c =
+    λ e.
+    let b = and-e _ _ e in
+    (b .0, b .1, λ k l. tested eqZ _ _ (c .equal .ensures k l))
+
+pub equal-to-spec : {M : Type 1} → statement M
+equal-to-spec =
+    tie.close
+    (tie.spec
+    (λ c κs. search needs)
+    returns)

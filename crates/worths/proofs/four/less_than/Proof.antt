@@ -1,0 +1,19 @@
+use borrow.Author.Needs.{needs}
+use lib.Signed.{ltZ}
+use Rattle.language.proofs.Truth.{and-e}
+use Rattle.worths.proofs.FourLaws.{tested}
+use Rattle.worths.proofs.four.less_than.Statement.{statement}
+use Rattle.worths.proofs.four.less_than.Tie as tie
+
+returns : tie.Need-returns
+returns c =
+    λ e.
+    let b = and-e _ _ e in
+    (b .0, b .1, λ k l. tested ltZ _ _ (c .less .ensures k l))
+
+pub less-than-spec : {M : Type 1} → statement M
+less-than-spec =
+    tie.close
+    (tie.spec
+    (λ c κs. search needs)
+    returns)

@@ -1,0 +1,246 @@
+// Amounts and tests in four months in a row, all four of them without a refusal, or not sure.
+ghost use mathlib.Core.Path.{_≡_};
+ghost use mathlib.Core.Bool.{_&&_, _||_, true};
+ghost use Prim.Native.Nat.{ℕ, _+_, _<_, _≤_};
+ghost use lib.IntN.{_*ℤ_, _+ℤ_, _-ℤ_, natAbs, pos};
+ghost use lib.Signed.{ltZ};
+ghost use Rattle.amounts.specs.Fine.{Divides};
+ghost use Rattle.amounts.specs.FourMonths.{heldIn};
+ghost use Rattle.integers.specs.Equal.{eqZ};
+ghost use Rattle.language.specs.Answer.{got};
+ghost use Rattle.language.specs.Limits.{maxAmount};
+ghost use Rattle.language.specs.Payoff.Evaluate.{inRange};
+ghost use Rattle.nodes.specs.Table.{natOf, slotAt};
+ghost use Rattle.worths.specs.Answers.{dividedBy, notAnswer, valuedAnswer};
+ghost use Rattle.worths.specs.FourMonths.{Chosen, From, FromTest, FromTests, FromTwo, SmallFour, SureFour, oneOf, readingIn};
+ghost use Rattle.worths.specs.Ranges.{FourWaited, Near, Readable};
+use crate::answers;
+use crate::answers::Valued;
+use crate::rows;
+use amounts::four;
+use amounts::four::Four;
+use amounts::four::Held;
+use amounts::four_rows;
+use integers::Month;
+use integers::Pence;
+use tables::Span;
+
+// An amount in four months; what `four` holds counts only where `all` came without a refusal.
+pub struct FourValues {
+    pub all: bool,
+    pub four: Four,
+}
+
+pub struct FourTests {
+    pub all: bool,
+    pub held: Held,
+}
+
+// Nothing is said.
+pub fn unsure() -> FourValues
+    ensures { λ r. ⌜ (r .all ≡ true → ⊥) ⌝ }
+{
+    FourValues {
+        all: false,
+        four: Four {
+            a: Pence(0),
+            b: Pence(0),
+            c: Pence(0),
+            d: Pence(0),
+        },
+    }
+}
+
+fn gathered(x: Valued, y: Valued, z: Valued, u: Valued) -> FourValues
+    ensures { λ r. ⌜ SureFour r (oneOf (valuedAnswer x) (valuedAnswer y) (valuedAnswer z) (valuedAnswer u)) ⌝ }
+{
+    let Valued::Value(a) = x else {
+        return unsure();
+    };
+    let Valued::Value(b) = y else {
+        return unsure();
+    };
+    let Valued::Value(c) = z else {
+        return unsure();
+    };
+    let Valued::Value(d) = u else {
+        return unsure();
+    };
+    FourValues {
+        all: true,
+        four: Four { a, b, c, d },
+    }
+}
+
+// ---- rows
+
+pub fn number(nodes: &[i64; 2560], at: usize) -> FourValues
+    requires { ⌜ (at < 512) × (natAbs (slotAt (now nodes) at 1) ≤ maxAmount) ⌝ }
+    ensures { λ r. ⌜ SureFour r (λ k. inRange maxAmount (slotAt (now (nodes .entry)) at 1)) ⌝ }
+{
+    FourValues {
+        all: true,
+        four: four_rows::number(nodes, at),
+    }
+}
+
+pub fn reading(
+    nodes: &[i64; 2560],
+    values: &[i64],
+    bounds: &[i64],
+    span: Span,
+    waited: Month,
+    at: usize,
+) -> FourValues
+    requires { ⌜ (at < 512) × Readable (span .h) (span .f) (now bounds) (now values) × FourWaited (waited .0) × Near (slotAt (now nodes) at 2) ⌝ }
+    ensures { λ r. ⌜ SureFour r (λ k. readingIn (span .h) (span .f) (now (bounds .entry)) (now (values .entry)) (natOf (slotAt (now (nodes .entry)) at 1)) (pos (natOf (waited .0) + k) +ℤ slotAt (now (nodes .entry)) at 2)) ⌝ }
+{
+    gathered(
+        rows::reading(
+            nodes,
+            values,
+            bounds,
+            span,
+            integers::later(waited, Month(0)),
+            at,
+        ),
+        rows::reading(
+            nodes,
+            values,
+            bounds,
+            span,
+            integers::later(waited, Month(1)),
+            at,
+        ),
+        rows::reading(
+            nodes,
+            values,
+            bounds,
+            span,
+            integers::later(waited, Month(2)),
+            at,
+        ),
+        rows::reading(
+            nodes,
+            values,
+            bounds,
+            span,
+            integers::later(waited, Month(3)),
+            at,
+        ),
+    )
+}
+
+pub fn over(nodes: &[i64; 2560], at: usize, x: FourValues) -> FourValues
+    requires { ⌜ (at < 512) × Divides (natOf (slotAt (now nodes) at 1)) × SmallFour x ⌝ }
+    ensures { λ r. ⌜ From (dividedBy (natOf (slotAt (now (nodes .entry)) at 1))) x r ⌝ }
+{
+    FourValues {
+        all: x.all,
+        four: four_rows::over(nodes, at, x.four),
+    }
+}
+
+// ---- two amounts
+
+pub fn sum_of(x: FourValues, y: FourValues) -> FourValues
+    requires { ⌜ SmallFour x × SmallFour y ⌝ }
+    ensures { λ r. ⌜ FromTwo (λ a b. inRange maxAmount (a +ℤ b)) x y r ⌝ }
+{
+    if x.all & y.all {
+        return gathered(
+            answers::amount_of(integers::sum(x.four.a, y.four.a)),
+            answers::amount_of(integers::sum(x.four.b, y.four.b)),
+            answers::amount_of(integers::sum(x.four.c, y.four.c)),
+            answers::amount_of(integers::sum(x.four.d, y.four.d)),
+        );
+    }
+    unsure()
+}
+
+pub fn difference_of(x: FourValues, y: FourValues) -> FourValues
+    requires { ⌜ SmallFour x × SmallFour y ⌝ }
+    ensures { λ r. ⌜ FromTwo (λ a b. inRange maxAmount (a -ℤ b)) x y r ⌝ }
+{
+    if x.all & y.all {
+        return gathered(
+            answers::amount_of(integers::difference(x.four.a, y.four.a)),
+            answers::amount_of(integers::difference(x.four.b, y.four.b)),
+            answers::amount_of(integers::difference(x.four.c, y.four.c)),
+            answers::amount_of(integers::difference(x.four.d, y.four.d)),
+        );
+    }
+    unsure()
+}
+
+pub fn product_of(x: FourValues, y: FourValues) -> FourValues
+    requires { ⌜ SmallFour x × SmallFour y ⌝ }
+    ensures { λ r. ⌜ FromTwo (λ a b. inRange maxAmount (a *ℤ b)) x y r ⌝ }
+{
+    if x.all & y.all {
+        return gathered(
+            answers::amount_of(integers::product(x.four.a, y.four.a)),
+            answers::amount_of(integers::product(x.four.b, y.four.b)),
+            answers::amount_of(integers::product(x.four.c, y.four.c)),
+            answers::amount_of(integers::product(x.four.d, y.four.d)),
+        );
+    }
+    unsure()
+}
+
+// The first where the test holds, else the second; both are worked out.
+pub fn chosen(t: FourTests, x: FourValues, y: FourValues) -> FourValues
+    ensures { λ r. ⌜ Chosen t x y r ⌝ }
+{
+    FourValues {
+        all: t.all & (x.all & y.all),
+        four: four::chosen(t.held, x.four, y.four),
+    }
+}
+
+// ---- tests
+
+pub fn less_than(x: FourValues, y: FourValues) -> FourTests
+    ensures { λ r. ⌜ FromTest (λ a b. got (ltZ a b)) x y r ⌝ }
+{
+    FourTests {
+        all: x.all & y.all,
+        held: four::less(x.four, y.four),
+    }
+}
+
+pub fn equal_to(x: FourValues, y: FourValues) -> FourTests
+    ensures { λ r. ⌜ FromTest (λ a b. got (eqZ a b)) x y r ⌝ }
+{
+    FourTests {
+        all: x.all & y.all,
+        held: four::equal(x.four, y.four),
+    }
+}
+
+pub fn both_hold(x: FourTests, y: FourTests) -> FourTests
+    ensures { λ r. ⌜ FromTests (λ a b. got (a && b)) x y r ⌝ }
+{
+    FourTests {
+        all: x.all & y.all,
+        held: four::both(x.held, y.held),
+    }
+}
+
+pub fn one_holds(x: FourTests, y: FourTests) -> FourTests
+    ensures { λ r. ⌜ FromTests (λ a b. got (a || b)) x y r ⌝ }
+{
+    FourTests {
+        all: x.all & y.all,
+        held: four::either(x.held, y.held),
+    }
+}
+
+pub fn opposite(x: FourTests) -> FourTests
+    ensures { λ r. ⌜ ((r .all ≡ true) → (x .all ≡ true) × ((k : ℕ) → k < 4 → got (heldIn (r .held) k) ≡ notAnswer (got (heldIn (x .held) k)))) ⌝ }
+{
+    FourTests {
+        all: x.all,
+        held: four::opposite(x.held),
+    }
+}
