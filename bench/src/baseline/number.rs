@@ -1,0 +1,177 @@
+//! Whole numbers as text, eight digits at a time.
+
+/// Reads a whole number of at most 15 digits that begins at `at`; answers it and where its digits end.
+#[inline]
+pub fn read(text: &[u8], at: usize) -> Option<(i64, usize)> {
+    let first = *text.get(at)?;
+    let digit = first.wrapping_sub(b'0');
+    if digit <= 9 {
+        // Most fields are one digit, and nothing may follow a leading zero.
+        match text.get(at + 1) {
+            Some(next) if next.is_ascii_digit() && digit != 0 => {}
+            _ => return Some((digit as i64, at + 1)),
+        }
+        return digits(text, at);
+    }
+    if first != b'-' || !matches!(text.get(at + 1), Some(b'1'..=b'9')) {
+        return None;
+    }
+    let (size, end) = digits(text, at + 1)?;
+    Some((-size, end))
+}
+
+/// The digits from `at`, of which the first is there and not zero.
+#[inline(always)]
+fn digits(text: &[u8], at: usize) -> Option<(i64, usize)> {
+    let Some(word) = eight_bytes(text, at) else {
+        return slowly(text, at, 0);
+    };
+    let (low, count) = leading(word);
+    if count < 8 {
+        return Some((low as i64, at + count));
+    }
+    match eight_bytes(text, at + 8) {
+        Some(word) => {
+            let (more, count) = leading(word);
+            match count {
+                8 => None,
+                _ => Some(((low * TENS[count] + more) as i64, at + 8 + count)),
+            }
+        }
+        None => slowly(text, at + 8, low),
+    }
+}
+
+const TENS: [u64; 8] = [1, 10, 100, 1000, 10_000, 100_000, 1_000_000, 10_000_000];
+
+#[inline(always)]
+fn eight_bytes(text: &[u8], at: usize) -> Option<u64> {
+    let bytes = text.get(at..at + 8)?;
+    Some(u64::from_le_bytes(bytes.try_into().ok()?))
+}
+
+/// The number that the leading digits among eight bytes make, and how many they are.
+#[inline(always)]
+fn leading(word: u64) -> (u64, usize) {
+    let low = word ^ 0x3030_3030_3030_3030;
+    // The lowest byte that is no digit gets its top bit; a carry only reaches bytes behind it.
+    let others = (low.wrapping_add(0x7676_7676_7676_7676) | low) & 0x8080_8080_8080_8080;
+    let count = (others.trailing_zeros() / 8) as usize;
+    if count == 0 {
+        return (0, 0);
+    }
+    // The digits move up, so that zeros stand in front of them.
+    let x = low << (64 - 8 * count as u32);
+    let x = (x.wrapping_mul(10).wrapping_add(x >> 8)) & 0x00ff_00ff_00ff_00ff;
+    let x = (x.wrapping_mul(100).wrapping_add(x >> 16)) & 0x0000_ffff_0000_ffff;
+    let x = (x.wrapping_mul(10_000).wrapping_add(x >> 32)) & 0xffff_ffff;
+    (x, count)
+}
+
+#[cold]
+fn slowly(text: &[u8], mut at: usize, so_far: u64) -> Option<(i64, usize)> {
+    let mut number = so_far;
+    while let Some(byte) = text.get(at) {
+        let digit = byte.wrapping_sub(b'0');
+        if digit > 9 {
+            break;
+        }
+        if number >= 100_000_000_000_000 {
+            return None;
+        }
+        number = number * 10 + digit as u64;
+        at += 1;
+    }
+    Some((number as i64, at))
+}
+
+/// Appends a number.
+#[inline]
+pub fn write(out: &mut Vec<u8>, number: i64) {
+    if number < 0 {
+        out.push(b'-');
+    }
+    let size = number.unsigned_abs();
+    if size < 10 {
+        out.push(b'0' + size as u8);
+    } else if size < 100_000_000 {
+        front(out, size as u32);
+    } else {
+        let high = size / 100_000_000;
+        if high < 100_000_000 {
+            front(out, high as u32);
+        } else {
+            front(out, (high / 100_000_000) as u32);
+            out.extend_from_slice(&ascii((high % 100_000_000) as u32).to_le_bytes());
+        }
+        out.extend_from_slice(&ascii((size % 100_000_000) as u32).to_le_bytes());
+    }
+}
+
+/// Appends a number from 0 to 99,999,999 without zeros in front.
+#[inline(always)]
+fn front(out: &mut Vec<u8>, number: u32) {
+    let digits = ascii(number);
+    let zeros = ((digits ^ 0x3030_3030_3030_3030).trailing_zeros() / 8).min(7);
+    out.extend_from_slice(&(digits >> (8 * zeros)).to_le_bytes());
+    out.truncate(out.len() - zeros as usize);
+}
+
+/// Eight digits, the first in the lowest byte.
+#[inline(always)]
+fn ascii(number: u32) -> u64 {
+    let x = (number / 10_000) as u64 | ((number % 10_000) as u64) << 32;
+    let hundreds = ((x * 10_486) >> 20) & 0x7f_0000_007f;
+    let x = hundreds | (x - 100 * hundreds) << 16;
+    let tens = ((x * 103) >> 10) & 0x000f_000f_000f_000f;
+    let x = tens | (x - 10 * tens) << 8;
+    x | 0x3030_3030_3030_3030
+}
+
+#[cfg(test)]
+mod tests {
+    use super::*;
+
+    #[test]
+    fn numbers_come_back() {
+        let mut sizes = vec![0i64, 7, 10, 99, 100, 9_999, 10_000, 99_999_999, 100_000_000];
+        sizes.extend([
+            9_000_000_000_000,
+            123_456_789_012,
+            1_000_000_000_000_000_000,
+        ]);
+        sizes.extend((0..19).map(|k| 10i64.pow(k)));
+        sizes.extend((0..19).map(|k| 10i64.pow(k) - 1));
+        for size in sizes {
+            for number in [size, -size] {
+                let mut out = Vec::new();
+                write(&mut out, number);
+                assert_eq!(out, number.to_string().into_bytes());
+                if size < 1_000_000_000_000_000 {
+                    assert_eq!(read(&out, 0), Some((number, out.len())));
+                    let end = out.len();
+                    out.extend_from_slice(b",12345678,,,");
+                    assert_eq!(read(&out, 0), Some((number, end)));
+                }
+            }
+        }
+    }
+
+    #[test]
+    fn what_is_no_number() {
+        for text in [
+            "",
+            "-",
+            "-0",
+            "+1",
+            "x",
+            ",",
+            "-x",
+            "1234567890123456",
+            "-00",
+        ] {
+            assert_eq!(read(text.as_bytes(), 0), None, "{text}");
+        }
+        assert_eq!(read(b"07", 0), Some((0, 1)));
+    }
+}

@@ -1,0 +1,155 @@
+//! A sheet: its lines read, one walk over the plan, a backward sum, and the lines of the answer.
+
+use super::number;
+use super::payments::column;
+use super::reader::{read, ROWS};
+use super::table::{Sight, Table};
+use super::{LIMIT, PLAN_BYTES, REFUSED_FORM, REFUSED_LONG, SHEET_BYTES};
+
+struct Sheet<'a> {
+    plan: &'a [u8],
+    days: Vec<i64>,
+    h: i64,
+    f: i64,
+    p: i64,
+    q: i64,
+    /// The factors, then the values of all labels.
+    numbers: Vec<i64>,
+    factors: usize,
+    bounds: Vec<i64>,
+}
+
+/// The answer's lines, or the refusal.
+pub fn answered(input: &[u8]) -> Result<Vec<u8>, u8> {
+    if input.len() > SHEET_BYTES {
+        return Err(REFUSED_LONG);
+    }
+    let sheet = lines(input).ok_or(REFUSED_FORM)?;
+    if sheet.plan.len() > PLAN_BYTES {
+        return Err(REFUSED_LONG);
+    }
+    let (factors, values) = sheet.numbers.split_at(sheet.factors);
+    let table = Table {
+        h: sheet.h,
+        f: sheet.f,
+        factors,
+        bounds: &sheet.bounds,
+        values,
+    };
+    let sight = Sight::of(&sheet.days, &table, Some((sheet.p, sheet.q)), || true);
+    let (reader, shape) = read::<false, ROWS>(sheet.plan, &sight, 0);
+    super::accepted(&reader, &sight, &shape, 0)?;
+    let mut months = [0; 601];
+    column(&reader.rows, values, 0, 0, 1, &mut months);
+    Ok(printed(&shape, &mut months[..factors.len()], factors))
+}
+
+/// The lines of an accepted sheet; `months` holds what is paid, and then what is left.
+fn printed(shape: &super::reader::Shape, paid: &mut [i64], factors: &[i64]) -> Vec<u8> {
+    let mut left = [0; 601];
+    let mut rest = 0;
+    for month in (0..paid.len()).rev() {
+        rest += paid[month] * factors[month];
+        left[month] = rest;
+    }
+    let mut out = Vec::with_capacity(64 + 40 * paid.len());
+    out.extend_from_slice(b"accepted,");
+    number::write(&mut out, shape.length as i64);
+    out.push(b',');
+    number::write(&mut out, shape.magnitude);
+    out.push(b'\n');
+    // Where nothing was paid, the value's text is that of the line before.
+    let mut same = 0..0;
+    for (month, &pence) in paid.iter().enumerate() {
+        number::write(&mut out, month as i64);
+        out.push(b',');
+        number::write(&mut out, pence);
+        out.push(b',');
+        let at = out.len();
+        if month > 0 && left[month - 1] == left[month] {
+            out.extend_from_within(same);
+        } else {
+            number::write(&mut out, left[month]);
+            out.push(b'\n');
+        }
+        same = at..out.len();
+    }
+    out
+}
+
+/// Reads the lines; `None` is a fault of the sheet itself.
+fn lines(input: &[u8]) -> Option<Sheet<'_>> {
+    let mut at = word(input, 0, b"plan,")?;
+    let end = at + input[at..].iter().position(|&byte| byte == b'\n')?;
+    let plan = &input[at..end];
+    at = word(input, end + 1, b"days")?;
+    let mut days = Vec::new();
+    at = numbers(input, at, &mut days)?;
+    let mut span = Vec::with_capacity(2);
+    at = numbers(input, word(input, at, b"span")?, &mut span)?;
+    let &[h, f] = &span[..] else {
+        return None;
+    };
+    let mut kept = Vec::with_capacity((input.len() - at) / 2);
+    at = numbers(input, word(input, at, b"factors")?, &mut kept)?;
+    let factors = kept.len();
+    if factors == 0 || factors as i64 != f + 1 {
+        return None;
+    }
+    let mut pair = Vec::with_capacity(2);
+    at = numbers(input, word(input, at, b"pair")?, &mut pair)?;
+    let &[p, q] = &pair[..] else {
+        return None;
+    };
+    let mut bounds = Vec::with_capacity(8);
+    while at < input.len() {
+        let mark = word(input, at, b"index,")?;
+        let (label, next) = field(input, mark)?;
+        if label != bounds.len() as i64 || input.get(next) != Some(&b',') {
+            return None;
+        }
+        let (bound, next) = field(input, next + 1)?;
+        bounds.push(bound);
+        let before = kept.len();
+        at = numbers(input, next, &mut kept)?;
+        let count = kept.len() - before;
+        if count == 0 || count as i64 != h + f + 1 {
+            return None;
+        }
+    }
+    Some(Sheet {
+        plan,
+        days,
+        h,
+        f,
+        p,
+        q,
+        numbers: kept,
+        factors,
+        bounds,
+    })
+}
+
+fn word(input: &[u8], at: usize, word: &[u8]) -> Option<usize> {
+    input
+        .get(at..)?
+        .starts_with(word)
+        .then_some(at + word.len())
+}
+
+/// A number in the range of a sheet, and where it ends.
+#[inline(always)]
+fn field(input: &[u8], at: usize) -> Option<(i64, usize)> {
+    let (number, end) = number::read(input, at)?;
+    (-LIMIT <= number && number <= LIMIT).then_some((number, end))
+}
+
+/// The rest of a line: numbers with a comma in front of each. Answers where the next line begins.
+fn numbers(input: &[u8], mut at: usize, kept: &mut Vec<i64>) -> Option<usize> {
+    while input.get(at) == Some(&b',') {
+        let (number, end) = field(input, at + 1)?;
+        kept.push(number);
+        at = end;
+    }
+    (input.get(at) == Some(&b'\n')).then_some(at + 1)
+}
