@@ -3,8 +3,10 @@
 mod agree;
 mod ask;
 mod baseline;
+mod generate;
 mod loads;
 mod picture;
+mod random;
 mod report;
 mod stack;
 mod timing;
