@@ -20,6 +20,37 @@ fn main() -> ExitCode {
     let words: Vec<String> = std::env::args().skip(1).collect();
     let words: Vec<&str> = words.iter().map(String::as_str).collect();
     match words[..] {
+        ["some", call] => {
+            let mut lines = Vec::new();
+            for load in loads::all() {
+                lines.extend(report::calls_of(&load, |each| each.name() == call));
+            }
+            print!("{}", report::calls_text(&lines));
+            ExitCode::SUCCESS
+        }
+        ["profile", call, load] => {
+            let load = loads::all()
+                .into_iter()
+                .find(|l| l.name.starts_with(load))
+                .unwrap();
+            let call = *ask::CALLS.iter().find(|c| c.name() == call).unwrap();
+            let ask = load.ask(call).unwrap();
+            let mut out = vec![0; 60_000];
+            let t = std::time::Instant::now();
+            let mut n = 0u32;
+            while t.elapsed().as_millis() < 3000 {
+                for _ in 0..20 {
+                    ask.by_hand(&mut out, &mut [0; 2]);
+                }
+                n += 20;
+            }
+            println!("{}", t.elapsed().as_nanos() as f64 / n as f64);
+            ExitCode::SUCCESS
+        }
+        ["walks"] => {
+            print!("{}", report::walks());
+            ExitCode::SUCCESS
+        }
         [] => all(),
         ["stack"] => {
             print!("{}", stack::text());

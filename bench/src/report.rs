@@ -14,17 +14,23 @@ pub struct Line {
 
 /// Every call on every load that it fits.
 pub fn calls(loads: &[Load]) -> Vec<Line> {
+    loads
+        .iter()
+        .flat_map(|load| calls_of(load, |_| true))
+        .collect()
+}
+
+/// The wanted calls on one load.
+pub fn calls_of(load: &Load, wanted: impl Fn(Call) -> bool) -> Vec<Line> {
     let mut lines = Vec::new();
-    for load in loads {
-        for call in CALLS {
-            if let Some(ask) = load.ask(call) {
-                lines.push(Line {
-                    load: load.name.clone(),
-                    nodes: load.nodes(),
-                    call,
-                    times: timed(&load.name, &ask),
-                });
-            }
+    for call in CALLS.into_iter().filter(|&call| wanted(call)) {
+        if let Some(ask) = load.ask(call) {
+            lines.push(Line {
+                load: load.name.clone(),
+                nodes: load.nodes(),
+                call,
+                times: timed(&load.name, &ask),
+            });
         }
     }
     lines

@@ -2,68 +2,54 @@
 
 use super::reader::Row;
 
-/// Values that wait for their node. Three children at each of 32 levels leave at most 65.
-pub type Pending = [i64; 128];
+struct Walk<'a> {
+    rows: &'a [Row],
+    values: &'a [i64],
+}
 
-pub const EMPTY: Pending = [0; 128];
-
-/// The rows of one amount or test, worked out from the last to the first: each node finds its
-/// operands on top of the pending values. `waited` is added to every place. A test is 1 or 0.
-#[inline(always)]
-pub fn worked_out(rows: &[Row], values: &[i64], waited: usize, pending: &mut Pending) -> i64 {
-    let mut top = 0;
-    let mut count = 0usize;
-    for row in rows.iter().rev() {
+impl Walk<'_> {
+    /// A leaf is taken where it stands; only what has children is a call.
+    #[inline(always)]
+    fn operand(&self, node: usize, month: usize) -> i64 {
+        let row = &self.rows[node];
         match row.letter {
-            b'N' => {
-                pending[count & 127] = top;
-                count += 1;
-                top = row.x;
-            }
-            b'O' => {
-                pending[count & 127] = top;
-                count += 1;
-                top = values[row.x as usize + waited];
-            }
-            b'Q' => top = top.div_euclid(row.x),
-            b'R' => top ^= 1,
-            b'I' => {
-                count = count.wrapping_sub(2);
-                let other = pending[count & 127];
-                let one = pending[count.wrapping_add(1) & 127];
-                top = if top != 0 { one } else { other };
-            }
-            letter => {
-                count = count.wrapping_sub(1);
-                let right = pending[count & 127];
-                top = match letter {
-                    b'A' => top + right,
-                    b'U' => top - right,
-                    b'K' => top * right,
-                    b'G' => (top < right) as i64,
-                    b'E' => (top == right) as i64,
-                    b'Y' => top & right,
-                    _ => top | right,
-                };
+            b'N' => row.x,
+            b'O' => self.values[row.x as usize + month],
+            _ => self.inner(node, month),
+        }
+    }
+
+    fn inner(&self, node: usize, month: usize) -> i64 {
+        let row = &self.rows[node];
+        let second = row.b as usize;
+        let one = self.operand(node + 1, month);
+        match row.letter {
+            b'A' => one + self.operand(second, month),
+            b'U' => one - self.operand(second, month),
+            b'K' => one * self.operand(second, month),
+            b'Q' => one.div_euclid(row.x),
+            b'G' => (one < self.operand(second, month)) as i64,
+            b'E' => (one == self.operand(second, month)) as i64,
+            b'Y' => one & self.operand(second, month),
+            b'V' => one | self.operand(second, month),
+            b'R' => one ^ 1,
+            _ => {
+                let chosen = if one != 0 { second } else { row.c as usize };
+                self.operand(chosen, month)
             }
         }
     }
-    top
 }
 
 /// The first of the months `from` to `to` in which the test holds.
 #[inline(never)]
-pub fn tried(test: &[Row], values: &[i64], from: usize, to: usize) -> Option<usize> {
-    let mut pending = EMPTY;
-    (from..=to).find(|&month| worked_out(test, values, month, &mut pending) != 0)
+pub fn tried(rows: &[Row], node: usize, values: &[i64], from: usize, to: usize) -> Option<usize> {
+    let walk = Walk { rows, values };
+    (from..=to).find(|&month| walk.inner(node, month) != 0)
 }
 
 /// One amount, once.
 #[inline(never)]
-pub fn amount(rows: &[Row], values: &[i64], month: usize) -> i64 {
-    match rows {
-        [row] if row.letter == b'N' => row.x,
-        [row] => values[row.x as usize + month],
-        _ => worked_out(rows, values, month, &mut { EMPTY }),
-    }
+pub fn amount(rows: &[Row], node: usize, values: &[i64], month: usize) -> i64 {
+    Walk { rows, values }.operand(node, month)
 }

@@ -1,48 +1,97 @@
 //! Whole numbers as text, eight digits at a time.
 
-/// Reads a whole number of at most 15 digits that begins at `at`; answers it and where its digits end.
+/// Where a number ends that is none. It comes with a number that means nothing.
+pub const NONE: (i64, usize) = (0, 0);
+
+/// Reads a whole number of at most 15 digits that begins at `at`; answers it and where its digits
+/// end, or `NONE`. Two words come back in registers, which an `Option` around them would not.
 #[inline]
-pub fn read(text: &[u8], at: usize) -> Option<(i64, usize)> {
-    let first = *text.get(at)?;
+pub fn read(text: &[u8], at: usize) -> (i64, usize) {
+    let Some(&first) = text.get(at) else {
+        return NONE;
+    };
     let digit = first.wrapping_sub(b'0');
     if digit <= 9 {
         // Most fields are one digit, and nothing may follow a leading zero.
-        match text.get(at + 1) {
-            Some(next) if next.is_ascii_digit() && digit != 0 => {}
-            _ => return Some((digit as i64, at + 1)),
-        }
-        return digits(text, at);
+        return match text.get(at + 1) {
+            Some(next) if next.is_ascii_digit() && digit != 0 => digits(text, at),
+            _ => (digit as i64, at + 1),
+        };
     }
     if first != b'-' || !matches!(text.get(at + 1), Some(b'1'..=b'9')) {
+        return NONE;
+    }
+    let (size, end) = digits(text, at + 1);
+    (-size, end)
+}
+
+/// The number that fills the bytes from `start` to `end`. Its length is known, so nothing waits for
+/// the number before it.
+#[inline(always)]
+pub fn read_whole(text: &[u8], start: usize, end: usize) -> Option<i64> {
+    let minus = (text[start] == b'-') as usize;
+    let count = end.wrapping_sub(start + minus);
+    let word = match end.checked_sub(8).and_then(|from| eight_bytes(text, from)) {
+        Some(word) if count.wrapping_sub(1) <= 7 => word,
+        _ => return read_long(text, start, end),
+    };
+    // Zeros in front of the digits.
+    let skip = 64 - 8 * count as u32;
+    let low = ((word ^ 0x3030_3030_3030_3030) >> skip) << skip;
+    let others = (low.wrapping_add(0x7676_7676_7676_7676) | low) & 0x8080_8080_8080_8080;
+    let zero = (low >> skip) as u8 == 0;
+    if others != 0 || (zero && count + minus > 1) {
         return None;
     }
-    let (size, end) = digits(text, at + 1)?;
-    Some((-size, end))
+    let sign = -(minus as i64);
+    Some((valued(low) as i64 ^ sign) - sign)
+}
+
+#[inline(never)]
+fn read_long(text: &[u8], start: usize, end: usize) -> Option<i64> {
+    let (number, stop) = read(text, start);
+    (stop == end && end > start).then_some(number)
+}
+
+/// A bit for each of 64 bytes that lies below the minus, as comma and line feed do.
+#[inline(always)]
+pub fn ends(block: &[u8; 64]) -> u64 {
+    const TOP: u64 = 0x8080_8080_8080_8080;
+    let mut mask = 0;
+    for (k, bytes) in block.chunks_exact(8).enumerate() {
+        let word = u64::from_le_bytes([
+            bytes[0], bytes[1], bytes[2], bytes[3], bytes[4], bytes[5], bytes[6], bytes[7],
+        ]);
+        let below = !((word | TOP) - 0x2d2d_2d2d_2d2d_2d2d) & !word & TOP;
+        let bits = (below >> 7).wrapping_mul(0x0102_0408_1020_4080) >> 56;
+        mask |= bits << (8 * k);
+    }
+    mask
 }
 
 /// The digits from `at`, of which the first is there and not zero.
 #[inline(always)]
-fn digits(text: &[u8], at: usize) -> Option<(i64, usize)> {
+fn digits(text: &[u8], at: usize) -> (i64, usize) {
     let Some(word) = eight_bytes(text, at) else {
         return slowly(text, at, 0);
     };
     let (low, count) = leading(word);
     if count < 8 {
-        return Some((low as i64, at + count));
+        return (low as i64, at + count);
     }
     match eight_bytes(text, at + 8) {
         Some(word) => {
             let (more, count) = leading(word);
             match count {
-                8 => None,
-                _ => Some(((low * TENS[count] + more) as i64, at + 8 + count)),
+                8 => NONE,
+                _ => ((low * TENS[count] + more) as i64, at + 8 + count),
             }
         }
         None => slowly(text, at + 8, low),
     }
 }
 
-const TENS: [u64; 8] = [1, 10, 100, 1000, 10_000, 100_000, 1_000_000, 10_000_000];
+const TENS: [u64; 8] = [1, 10, 100, 1_000, 10_000, 100_000, 1_000_000, 10_000_000];
 
 #[inline(always)]
 fn eight_bytes(text: &[u8], at: usize) -> Option<u64> {
@@ -57,19 +106,22 @@ fn leading(word: u64) -> (u64, usize) {
     // The lowest byte that is no digit gets its top bit; a carry only reaches bytes behind it.
     let others = (low.wrapping_add(0x7676_7676_7676_7676) | low) & 0x8080_8080_8080_8080;
     let count = (others.trailing_zeros() / 8) as usize;
-    if count == 0 {
-        return (0, 0);
-    }
-    // The digits move up, so that zeros stand in front of them.
-    let x = low << (64 - 8 * count as u32);
-    let x = (x.wrapping_mul(10).wrapping_add(x >> 8)) & 0x00ff_00ff_00ff_00ff;
-    let x = (x.wrapping_mul(100).wrapping_add(x >> 16)) & 0x0000_ffff_0000_ffff;
-    let x = (x.wrapping_mul(10_000).wrapping_add(x >> 32)) & 0xffff_ffff;
-    (x, count)
+    // The digits move up, so that zeros stand in front of them; none leaves nothing.
+    let x = low.checked_shl(64 - 8 * count as u32).unwrap_or(0);
+    (valued(x), count)
 }
 
-#[cold]
-fn slowly(text: &[u8], mut at: usize, so_far: u64) -> Option<(i64, usize)> {
+/// Eight digits, the first in the lowest byte, as a number.
+#[inline(always)]
+fn valued(x: u64) -> u64 {
+    let x = (x.wrapping_mul(10).wrapping_add(x >> 8)) & 0x00ff_00ff_00ff_00ff;
+    let x = (x.wrapping_mul(100).wrapping_add(x >> 16)) & 0x0000_ffff_0000_ffff;
+    (x.wrapping_mul(10_000).wrapping_add(x >> 32)) & 0xffff_ffff
+}
+
+/// Near the end of a text, byte by byte.
+#[inline(never)]
+fn slowly(text: &[u8], mut at: usize, so_far: u64) -> (i64, usize) {
     let mut number = so_far;
     while let Some(byte) = text.get(at) {
         let digit = byte.wrapping_sub(b'0');
@@ -77,12 +129,12 @@ fn slowly(text: &[u8], mut at: usize, so_far: u64) -> Option<(i64, usize)> {
             break;
         }
         if number >= 100_000_000_000_000 {
-            return None;
+            return NONE;
         }
         number = number * 10 + digit as u64;
         at += 1;
     }
-    Some((number as i64, at))
+    (number as i64, at)
 }
 
 /// Appends a number.
@@ -148,10 +200,14 @@ mod tests {
                 write(&mut out, number);
                 assert_eq!(out, number.to_string().into_bytes());
                 if size < 1_000_000_000_000_000 {
-                    assert_eq!(read(&out, 0), Some((number, out.len())));
+                    assert_eq!(read(&out, 0), (number, out.len()));
+                    assert_eq!(read_whole(&out, 0, out.len()), Some(number));
                     let end = out.len();
                     out.extend_from_slice(b",12345678,,,");
-                    assert_eq!(read(&out, 0), Some((number, end)));
+                    assert_eq!(read(&out, 0), (number, end));
+                    assert_eq!(read_whole(&out, 0, end), Some(number));
+                    let later = [b"plan,Z\n,", &out[..]].concat();
+                    assert_eq!(read_whole(&later, 8, 8 + end), Some(number));
                 }
             }
         }
@@ -170,8 +226,25 @@ mod tests {
             "1234567890123456",
             "-00",
         ] {
-            assert_eq!(read(text.as_bytes(), 0), None, "{text}");
+            assert_eq!(read(text.as_bytes(), 0).1, 0, "{text}");
+            let longer = format!("12345678{text},12345678");
+            let end = 8 + text.len();
+            assert_eq!(read_whole(longer.as_bytes(), 8, end), None, "{text}");
         }
-        assert_eq!(read(b"07", 0), Some((0, 1)));
+        assert_eq!(read(b"07", 0), (0, 1));
+    }
+
+    #[test]
+    fn ends_are_found() {
+        let mut block = [b'5'; 64];
+        for byte in 0..=255 {
+            for at in [0, 7, 8, 33, 63] {
+                block[at] = byte;
+                assert_eq!(ends(&block), ((byte < b'-') as u64) << at);
+                block[at] = b'5';
+            }
+        }
+        block[3..7].copy_from_slice(b",-,\n");
+        assert_eq!(ends(&block), 0b110_1000);
     }
 }

@@ -23,12 +23,11 @@ pub fn paid(rows: &[Row], values: &[i64], node: usize, root: usize, month: usize
         }
         b'S' => match paid(rows, values, row.b as usize, root, month) {
             0 => 0,
-            pence => pence * amount(&rows[node + 1..row.b as usize], values, root),
+            pence => pence * amount(rows, node + 1, values, root),
         },
         b'W' => {
             let last = root + row.x as usize;
-            let test = &rows[node + 1..row.b as usize];
-            match tried(test, values, root, last.min(month)) {
+            match tried(rows, node + 1, values, root, last.min(month)) {
                 Some(hit) => paid(rows, values, row.b as usize, hit, month),
                 None if last <= month => paid(rows, values, row.c as usize, last, month),
                 None => 0,
@@ -63,7 +62,7 @@ pub fn column(
             column(rows, values, row.b as usize, root, weight, months);
         }
         b'S' => {
-            let amount = amount(&rows[node + 1..row.b as usize], values, root);
+            let amount = amount(rows, node + 1, values, root);
             // Beyond the limit the plan beneath has magnitude 0, so it pays nothing.
             match weight.checked_mul(amount) {
                 Some(weight) if weight != 0 && weight.abs() <= LIMIT => {
@@ -74,8 +73,7 @@ pub fn column(
         }
         b'W' => {
             let last = root + row.x as usize;
-            let test = &rows[node + 1..row.b as usize];
-            let (next, root) = match tried(test, values, root, last) {
+            let (next, root) = match tried(rows, node + 1, values, root, last) {
                 Some(hit) => (row.b, hit),
                 None => (row.c, last),
             };

@@ -187,11 +187,11 @@ impl<'a, const PAYOFF: bool, const MODE: u8> Reader<'a, PAYOFF, MODE> {
     /// A number from `low` to `high`.
     #[inline(always)]
     fn number(&mut self, low: i64, high: i64) -> i64 {
-        if let Some((number, end)) = number::read(self.text, self.at) {
-            if matches!(self.text.get(end), None | Some(b',')) && low <= number && number <= high {
-                self.at = end + 1;
-                return number;
-            }
+        let (number, end) = number::read(self.text, self.at);
+        let closed = matches!(self.text.get(end), None | Some(b','));
+        if end != 0 && closed && low <= number && number <= high {
+            self.at = end + 1;
+            return number;
         }
         self.refuse(REFUSED_FORM);
         low.max(0)
@@ -238,12 +238,9 @@ impl<'a, const PAYOFF: bool, const MODE: u8> Reader<'a, PAYOFF, MODE> {
     /// A payoff's month: a number and up to 31 settings, lowest first.
     #[inline(always)]
     fn month(&mut self) -> i32 {
-        let Some((number, mut end)) = number::read(self.text, self.at) else {
-            self.refuse(REFUSED_FORM);
-            return 0;
-        };
+        let (number, mut end) = number::read(self.text, self.at);
         let mut month = number as i32;
-        let mut right = (-60..=19_200).contains(&number);
+        let mut right = end != 0 && (-60..=19_200).contains(&number);
         if self.text.get(end) == Some(&b'+') {
             let mut lowest = b'0';
             let mut left = 31;

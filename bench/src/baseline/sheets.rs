@@ -52,30 +52,62 @@ fn printed(shape: &super::reader::Shape, paid: &mut [i64], factors: &[i64]) -> V
         rest += paid[month] * factors[month];
         left[month] = rest;
     }
-    let mut out = Vec::with_capacity(64 + 40 * paid.len());
+    let mut out = Vec::with_capacity(128 + 40 * paid.len());
     out.extend_from_slice(b"accepted,");
     number::write(&mut out, shape.length as i64);
     out.push(b',');
     number::write(&mut out, shape.magnitude);
     out.push(b'\n');
-    // Where nothing was paid, the value's text is that of the line before.
-    let mut same = 0..0;
-    for (month, &pence) in paid.iter().enumerate() {
-        number::write(&mut out, month as i64);
-        out.push(b',');
-        number::write(&mut out, pence);
-        out.push(b',');
-        let at = out.len();
-        if month > 0 && left[month - 1] == left[month] {
-            out.extend_from_within(same);
-        } else {
-            number::write(&mut out, left[month]);
-            out.push(b'\n');
+    // Where pence and value stay, so does all behind the month.
+    let mut tail = [0; 48];
+    let mut size = 0;
+    let mut made = Vec::with_capacity(48);
+    let mut before = None;
+    for ((month, &pence), &left) in MONTHS.iter().zip(&*paid).zip(&left) {
+        if before != Some((pence, left)) {
+            before = Some((pence, left));
+            made.clear();
+            made.push(b',');
+            number::write(&mut made, pence);
+            made.push(b',');
+            number::write(&mut made, left);
+            made.push(b'\n');
+            size = made.len();
+            tail[..size].copy_from_slice(&made);
         }
-        same = at..out.len();
+        append(&mut out, month, month[3] as usize);
+        match size <= 16 {
+            true => append(&mut out, &tail[..16], size),
+            false => append(&mut out, &tail, size),
+        }
     }
     out
 }
+
+/// Appends the first bytes of a piece whose whole length is known when compiling.
+#[inline(always)]
+fn append(out: &mut Vec<u8>, piece: &[u8], count: usize) {
+    let end = out.len() + count;
+    out.extend_from_slice(piece);
+    out.truncate(end);
+}
+
+/// The digits of each month, and how many they are.
+static MONTHS: [[u8; 4]; 601] = {
+    let mut months = [[0; 4]; 601];
+    let mut month = 0;
+    while month <= 600 {
+        let (h, t, u) = (month / 100, month / 10 % 10, month % 10);
+        let (h, t, u) = (b'0' + h as u8, b'0' + t as u8, b'0' + u as u8);
+        months[month] = match month {
+            0..10 => [u, 0, 0, 1],
+            10..100 => [t, u, 0, 2],
+            _ => [h, t, u, 3],
+        };
+        month += 1;
+    }
+    months
+};
 
 /// Reads the lines; `None` is a fault of the sheet itself.
 fn lines(input: &[u8]) -> Option<Sheet<'_>> {
@@ -138,18 +170,46 @@ fn word(input: &[u8], at: usize, word: &[u8]) -> Option<usize> {
 }
 
 /// A number in the range of a sheet, and where it ends.
-#[inline(always)]
 fn field(input: &[u8], at: usize) -> Option<(i64, usize)> {
-    let (number, end) = number::read(input, at)?;
-    (-LIMIT <= number && number <= LIMIT).then_some((number, end))
+    let (number, end) = number::read(input, at);
+    (end != 0 && -LIMIT <= number && number <= LIMIT).then_some((number, end))
 }
 
 /// The rest of a line: numbers with a comma in front of each. Answers where the next line begins.
-fn numbers(input: &[u8], mut at: usize, kept: &mut Vec<i64>) -> Option<usize> {
-    while input.get(at) == Some(&b',') {
-        let (number, end) = field(input, at + 1)?;
-        kept.push(number);
-        at = end;
+fn numbers(input: &[u8], at: usize, kept: &mut Vec<i64>) -> Option<usize> {
+    match input.get(at)? {
+        b',' => {}
+        b'\n' => return Some(at + 1),
+        _ => return None,
     }
-    (input.get(at) == Some(&b'\n')).then_some(at + 1)
+    let mut start = at + 1;
+    let mut from = start;
+    while from < input.len() {
+        let mut last = [0; 64];
+        let block = match input[from..].first_chunk() {
+            Some(block) => block,
+            None => {
+                last[..input.len() - from].copy_from_slice(&input[from..]);
+                &last
+            }
+        };
+        let mut ends = number::ends(block);
+        while ends != 0 {
+            let end = from + ends.trailing_zeros() as usize;
+            ends &= ends - 1;
+            let byte = *input.get(end)?;
+            let number = number::read_whole(input, start, end)?;
+            if !(-LIMIT..=LIMIT).contains(&number) {
+                return None;
+            }
+            kept.push(number);
+            match byte {
+                b',' => start = end + 1,
+                b'\n' => return Some(end + 1),
+                _ => return None,
+            }
+        }
+        from += 64;
+    }
+    None
 }

@@ -42,13 +42,12 @@ impl Step<'_> {
                 self.amount(row.at as usize, node + 1, plan);
                 match self.step(plan, end) {
                     0 => 0,
-                    pence => pence * amount(&self.rows[node + 1..plan], self.values, self.today),
+                    pence => pence * amount(self.rows, node + 1, self.values, self.today),
                 }
             }
             b'W' => {
                 let (first, second) = (row.b as usize, row.c as usize);
-                let test = &self.rows[node + 1..first];
-                if tried(test, self.values, self.today, self.today).is_some() {
+                if tried(self.rows, node + 1, self.values, self.today, self.today).is_some() {
                     return self.step(first, self.rows[second].at as usize - 1);
                 }
                 if row.x == 0 {
