@@ -41,11 +41,71 @@ impl Walk<'_> {
     }
 }
 
-/// The first of the months `from` to `to` in which the test holds.
+/// Values that wait for their node. Three children at each of 32 levels leave at most 65.
+type Pending = [i64; 128];
+
+/// The same from the last row to the first, for all rows: each node finds its operands on top of the
+/// pending values. In a long test that is quicker than calls.
+#[inline(always)]
+fn backwards(rows: &[Row], values: &[i64], month: usize, pending: &mut Pending) -> i64 {
+    let mut top = 0;
+    let mut count = 0usize;
+    macro_rules! waiting {
+        () => {{
+            count = count.wrapping_sub(1);
+            pending[count & 127]
+        }};
+    }
+    for row in rows.iter().rev() {
+        match row.letter {
+            b'N' => {
+                pending[count & 127] = top;
+                count += 1;
+                top = row.x;
+            }
+            b'O' => {
+                pending[count & 127] = top;
+                count += 1;
+                top = values[row.x as usize + month];
+            }
+            b'A' => top += waiting!(),
+            b'U' => top -= waiting!(),
+            b'K' => top *= waiting!(),
+            b'G' => top = (top < waiting!()) as i64,
+            b'E' => top = (top == waiting!()) as i64,
+            b'Y' => top &= waiting!(),
+            b'V' => top |= waiting!(),
+            b'Q' => top = top.div_euclid(row.x),
+            b'R' => top ^= 1,
+            _ => {
+                let one = waiting!();
+                let two = waiting!();
+                top = if top != 0 { one } else { two };
+            }
+        }
+    }
+    top
+}
+
+/// From how many rows on a test is worked out backwards.
+const LONG: usize = 16;
+
+/// The first of the months `from` to `to` in which the test in the rows `node` to `end` holds.
 #[inline(never)]
-pub fn tried(rows: &[Row], node: usize, values: &[i64], from: usize, to: usize) -> Option<usize> {
-    let walk = Walk { rows, values };
-    (from..=to).find(|&month| walk.inner(node, month) != 0)
+pub fn tried(
+    rows: &[Row],
+    (node, end): (usize, usize),
+    values: &[i64],
+    from: usize,
+    to: usize,
+) -> Option<usize> {
+    if end - node < LONG {
+        let walk = Walk { rows, values };
+        return (from..=to).find(|&month| walk.inner(node, month) != 0);
+    }
+    let test = &rows[node..end];
+    let mut pending = [0; 128];
+    (from..=to).find(|&month| backwards(test, values, month, &mut pending) != 0)
 }
 
 /// One amount, once.

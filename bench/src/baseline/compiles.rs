@@ -1,6 +1,7 @@
 //! A plan's payoff, as a copy of the plan's text with the changes in it.
 
 use super::number;
+use super::pieces::copy;
 use super::reader::{read, EDITS};
 use super::table::Sight;
 
@@ -13,7 +14,7 @@ pub fn compiled(plan: &[u8]) -> Result<Vec<u8>, u8> {
     let mut from = 0;
     for edit in &reader.edits {
         let (at, to) = (edit.from as usize, edit.to as usize);
-        out.extend_from_slice(&plan[from..at]);
+        copy(&mut out, plan, from, at);
         from = to;
         let ending = &reader.endings[edit.ending as usize];
         match edit.letter {

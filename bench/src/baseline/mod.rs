@@ -8,6 +8,7 @@ mod compiles;
 mod number;
 mod payments;
 mod payoffs;
+mod pieces;
 mod reader;
 mod sheets;
 mod steps;

@@ -27,7 +27,8 @@ pub fn paid(rows: &[Row], values: &[i64], node: usize, root: usize, month: usize
         },
         b'W' => {
             let last = root + row.x as usize;
-            match tried(rows, node + 1, values, root, last.min(month)) {
+            let test = (node + 1, row.b as usize);
+            match tried(rows, test, values, root, last.min(month)) {
                 Some(hit) => paid(rows, values, row.b as usize, hit, month),
                 None if last <= month => paid(rows, values, row.c as usize, last, month),
                 None => 0,
@@ -73,7 +74,8 @@ pub fn column(
         }
         b'W' => {
             let last = root + row.x as usize;
-            let (next, root) = match tried(rows, node + 1, values, root, last) {
+            let test = (node + 1, row.b as usize);
+            let (next, root) = match tried(rows, test, values, root, last) {
                 Some(hit) => (row.b, hit),
                 None => (row.c, last),
             };

@@ -36,7 +36,8 @@ impl Payoff<'_> {
             },
             b'W' => {
                 let last = waited + row.x as usize;
-                match tried(self.rows, node + 1, self.values, waited, last) {
+                let test = (node + 1, row.b as usize);
+                match tried(self.rows, test, self.values, waited, last) {
                     Some(hit) => self.fine(row.b as usize, hit),
                     None => self.fine(row.c as usize, last),
                 }

@@ -2,6 +2,7 @@
 
 use super::number;
 use super::payments::column;
+use super::pieces::append;
 use super::reader::{read, ROWS};
 use super::table::{Sight, Table};
 use super::{LIMIT, PLAN_BYTES, REFUSED_FORM, REFUSED_LONG, SHEET_BYTES};
@@ -82,14 +83,6 @@ fn printed(shape: &super::reader::Shape, paid: &mut [i64], factors: &[i64]) -> V
         }
     }
     out
-}
-
-/// Appends the first bytes of a piece whose whole length is known when compiling.
-#[inline(always)]
-fn append(out: &mut Vec<u8>, piece: &[u8], count: usize) {
-    let end = out.len() + count;
-    out.extend_from_slice(piece);
-    out.truncate(end);
 }
 
 /// The digits of each month, and how many they are.

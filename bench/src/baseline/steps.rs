@@ -2,6 +2,7 @@
 
 use super::amounts::{amount, tried};
 use super::number;
+use super::pieces::copy;
 use super::reader::Row;
 
 pub struct Step<'a> {
@@ -47,7 +48,8 @@ impl Step<'_> {
             }
             b'W' => {
                 let (first, second) = (row.b as usize, row.c as usize);
-                if tried(self.rows, node + 1, self.values, self.today, self.today).is_some() {
+                let test = (node + 1, first);
+                if tried(self.rows, test, self.values, self.today, self.today).is_some() {
                     return self.step(first, self.rows[second].at as usize - 1);
                 }
                 if row.x == 0 {
@@ -74,7 +76,7 @@ impl Step<'_> {
             if open >= end {
                 break;
             }
-            self.out.extend_from_slice(&self.text[from..open]);
+            copy(&mut self.out, self.text, from, open);
             let setting = self.text[open + 1] - b'0';
             number::write(&mut self.out, self.days[(setting & 7) as usize] as i64);
             from = open + 2;
@@ -92,18 +94,17 @@ impl Step<'_> {
             let offset = row.x - label * self.months - self.before;
             let at = row.at as usize;
             if offset <= 0 {
-                self.out.extend_from_slice(&self.text[from..at]);
+                copy(&mut self.out, self.text, from, at);
                 self.out.extend_from_slice(b"N,");
                 let value = self.values[row.x as usize + self.today];
                 number::write(&mut self.out, value);
             } else {
-                self.out.extend_from_slice(&self.text[from..at + 4]);
+                copy(&mut self.out, self.text, from, at + 4);
                 number::write(&mut self.out, offset - 1);
             }
             from = after(self.text, at + 4);
         }
-        let end = self.rows[plan].at as usize;
-        self.out.extend_from_slice(&self.text[from..end]);
+        copy(&mut self.out, self.text, from, self.rows[plan].at as usize);
     }
 }
 
