@@ -5,7 +5,7 @@ pub const NONE: (i64, usize) = (0, 0);
 
 /// Reads a whole number of at most 15 digits that begins at `at`; answers it and where its digits
 /// end, or `NONE`. Two words come back in registers, which an `Option` around them would not.
-#[inline]
+#[inline(always)]
 pub fn read(text: &[u8], at: usize) -> (i64, usize) {
     let Some(&first) = text.get(at) else {
         return NONE;
@@ -70,7 +70,7 @@ pub fn ends(block: &[u8; 64]) -> u64 {
 }
 
 /// The digits from `at`, of which the first is there and not zero.
-#[inline(always)]
+#[inline(never)]
 fn digits(text: &[u8], at: usize) -> (i64, usize) {
     let Some(word) = eight_bytes(text, at) else {
         return slowly(text, at, 0);

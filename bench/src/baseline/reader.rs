@@ -34,14 +34,6 @@ pub const ROWS: u8 = 1;
 /// Compiling's changes instead of rows.
 pub const EDITS: u8 = 2;
 
-/// The least and greatest offset that is read, and the magnitude.
-#[derive(Clone, Copy)]
-pub struct Amount {
-    pub least: i32,
-    pub latest: i32,
-    pub magnitude: i64,
-}
-
 #[derive(Clone, Copy)]
 pub struct Shape {
     pub length: i32,
@@ -50,11 +42,6 @@ pub struct Shape {
 }
 
 const FAR: i32 = 1 << 28;
-const NOT_READ: Amount = Amount {
-    least: FAR,
-    latest: -FAR,
-    magnitude: 0,
-};
 const NOTHING: Shape = Shape {
     length: 0,
     first: FAR,
@@ -100,6 +87,10 @@ pub struct Reader<'a, const PAYOFF: bool, const MODE: u8> {
     pub endings: Vec<Vec<u8>>,
     delay: i32,
     ending: u16,
+    /// The least and greatest offset in the amount or test that is being read. A plan never stands
+    /// inside one, so they need not come back with each of its parts.
+    least: i32,
+    latest: i32,
 }
 
 /// Reads a whole text as a plan whose root stands in month `root`.
@@ -125,6 +116,8 @@ pub fn read<'a, const PAYOFF: bool, const MODE: u8>(
         endings: Vec::new(),
         delay: 0,
         ending: 0,
+        least: FAR,
+        latest: -FAR,
     };
     if MODE == EDITS {
         reader.endings.push(Vec::new());
@@ -364,14 +357,15 @@ impl<'a, const PAYOFF: bool, const MODE: u8> Reader<'a, PAYOFF, MODE> {
             }
             b'S' => {
                 let node = self.row(b'S', at, 0, 0);
+                (self.least, self.latest) = (FAR, -FAR);
                 let amount = self.amount(depth + 1);
+                let latest = self.latest;
+                self.unread |= self.least + low < -self.sight.h || latest + high > self.sight.f;
                 self.second(node);
                 let plan = self.plan(depth + 1, low, high);
-                self.unread |=
-                    amount.least + low < -self.sight.h || amount.latest + high > self.sight.f;
-                self.untimely |= amount.latest > plan.first;
+                self.untimely |= latest > plan.first;
                 Shape {
-                    magnitude: self.product(amount.magnitude, plan.magnitude),
+                    magnitude: self.product(amount, plan.magnitude),
                     ..plan
                 }
             }
@@ -405,10 +399,11 @@ impl<'a, const PAYOFF: bool, const MODE: u8> Reader<'a, PAYOFF, MODE> {
                 let (delay, _) = self.delay();
                 let node = self.row(b'W', at, delay as i64, 0);
                 let last = high + delay;
-                let test = self.test(depth + 1);
+                (self.least, self.latest) = (FAR, -FAR);
+                self.test(depth + 1);
                 self.unread |=
-                    test.least + low < -self.sight.h || test.latest + last > self.sight.f;
-                self.untimely |= test.latest > 0;
+                    self.least + low < -self.sight.h || self.latest + last > self.sight.f;
+                self.untimely |= self.latest > 0;
                 self.second(node);
                 let one = self.plan(depth + 1, low, last);
                 self.third(node);
@@ -447,16 +442,14 @@ impl<'a, const PAYOFF: bool, const MODE: u8> Reader<'a, PAYOFF, MODE> {
         self.endings.push(ending);
     }
 
-    fn amount(&mut self, depth: u32) -> Amount {
+    /// Answers the magnitude.
+    fn amount(&mut self, depth: u32) -> i64 {
         let at = self.at;
         match self.letter(AMOUNT, depth) {
             b'N' => {
                 let number = self.number(-LIMIT, LIMIT);
                 self.row(b'N', at, number, 0);
-                Amount {
-                    magnitude: number.abs(),
-                    ..NOT_READ
-                }
+                number.abs()
             }
             b'O' => {
                 let label = self.digit(b'0', b'7');
@@ -469,17 +462,14 @@ impl<'a, const PAYOFF: bool, const MODE: u8> Reader<'a, PAYOFF, MODE> {
                 let place = label as i32 * months + self.sight.h + offset;
                 self.row(b'O', at, place as i64, label);
                 self.edit(at, self.delay + offset, b'O');
-                let bound = match self.sight.bounds.get(label as usize) {
+                self.least = self.least.min(offset);
+                self.latest = self.latest.max(offset);
+                match self.sight.bounds.get(label as usize) {
                     Some(&bound) => bound,
                     None => {
                         self.unread = true;
                         0
                     }
-                };
-                Amount {
-                    least: offset,
-                    latest: offset,
-                    magnitude: bound,
                 }
             }
             letter @ (b'A' | b'U') => {
@@ -487,14 +477,14 @@ impl<'a, const PAYOFF: bool, const MODE: u8> Reader<'a, PAYOFF, MODE> {
                 let one = self.amount(depth + 1);
                 self.second(node);
                 let two = self.amount(depth + 1);
-                joined(one, two, self.held(one.magnitude + two.magnitude))
+                self.held(one + two)
             }
             b'K' => {
                 let node = self.row(b'K', at, 0, 0);
                 let one = self.amount(depth + 1);
                 self.second(node);
                 let two = self.amount(depth + 1);
-                joined(one, two, self.product(one.magnitude, two.magnitude))
+                self.product(one, two)
             }
             b'Q' => {
                 let by = self.number(1, LIMIT);
@@ -503,49 +493,38 @@ impl<'a, const PAYOFF: bool, const MODE: u8> Reader<'a, PAYOFF, MODE> {
             }
             b'I' => {
                 let node = self.row(b'I', at, 0, 0);
-                let test = self.test(depth + 1);
+                self.test(depth + 1);
                 self.second(node);
                 let one = self.amount(depth + 1);
                 self.third(node);
                 let two = self.amount(depth + 1);
-                let both = joined(one, two, one.magnitude.max(two.magnitude));
-                joined(test, both, both.magnitude)
+                one.max(two)
             }
-            _ => NOT_READ,
+            _ => 0,
         }
     }
 
-    fn test(&mut self, depth: u32) -> Amount {
+    /// A test has no magnitude.
+    fn test(&mut self, depth: u32) {
         let at = self.at;
         match self.letter(TEST, depth) {
             letter @ (b'G' | b'E') => {
                 let node = self.row(letter, at, 0, 0);
-                let one = self.amount(depth + 1);
+                self.amount(depth + 1);
                 self.second(node);
-                let two = self.amount(depth + 1);
-                joined(one, two, 0)
+                self.amount(depth + 1);
             }
             letter @ (b'Y' | b'V') => {
                 let node = self.row(letter, at, 0, 0);
-                let one = self.test(depth + 1);
+                self.test(depth + 1);
                 self.second(node);
-                let two = self.test(depth + 1);
-                joined(one, two, 0)
+                self.test(depth + 1);
             }
             b'R' => {
                 self.row(b'R', at, 0, 0);
-                self.test(depth + 1)
+                self.test(depth + 1);
             }
-            _ => NOT_READ,
+            _ => {}
         }
-    }
-}
-
-#[inline(always)]
-fn joined(one: Amount, two: Amount, magnitude: i64) -> Amount {
-    Amount {
-        least: one.least.min(two.least),
-        latest: one.latest.max(two.latest),
-        magnitude,
     }
 }
