@@ -130,6 +130,11 @@ pub fn flat(name: &str, nodes: usize) -> Load {
     Load::plan(name, plan, &[], table(0, 600, 1, 200))
 }
 
+/// A plan that pays nothing, for what a sheet costs by its numbers and lines alone.
+pub fn nothing(f: i64, labels: usize) -> Load {
+    Load::plan("nothing", "Z".into(), &[], table(0, f, labels, 200_000))
+}
+
 /// Waits one in the other's place when it misses, so that each waits its months in full.
 fn nested(waits: usize, d: i64, leaves: impl Fn(usize) -> usize) -> String {
     let mut plan = String::from("Z");
@@ -262,7 +267,7 @@ pub fn deepest() -> Vec<Load> {
         format!("S,{}O,0,0{},T,1,2", "U,".repeat(30), ",N,1".repeat(30)),
     );
     add("K", unary("K,N,1,", "N,1"));
-    let choices = format!("{}N,1{}", "I,E,N,1,N,1,".repeat(30), ",N,2".repeat(30));
+    let choices = format!("{}N,1{}", "I,E,N,1,N,1,".repeat(29), ",N,2".repeat(29));
     add("I", format!("S,{choices},T,1,2"));
     let tests = |open: &str| format!("W,600,{}G,N,1,O,0,0,T,1,2,T,2,1", open.repeat(29));
     add("R", tests("R,"));

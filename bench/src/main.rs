@@ -14,37 +14,15 @@ mod timing;
 use ask::Call;
 use std::process::ExitCode;
 
-const USAGE: &str = "usage: bench | bench agree [--calls N] [--seed S] | bench stack";
+const USAGE: &str = "usage: bench | bench only CALL | bench walks | bench stack\n       bench agree [--calls N] [--seed S]";
 
 fn main() -> ExitCode {
     let words: Vec<String> = std::env::args().skip(1).collect();
     let words: Vec<&str> = words.iter().map(String::as_str).collect();
     match words[..] {
-        ["some", call] => {
-            let mut lines = Vec::new();
-            for load in loads::all() {
-                lines.extend(report::calls_of(&load, |each| each.name() == call));
-            }
+        ["only", name] => {
+            let lines = report::calls(&loads::all(), |call| call.name() == name);
             print!("{}", report::calls_text(&lines));
-            ExitCode::SUCCESS
-        }
-        ["profile", call, load] => {
-            let load = loads::all()
-                .into_iter()
-                .find(|l| l.name.starts_with(load))
-                .unwrap();
-            let call = *ask::CALLS.iter().find(|c| c.name() == call).unwrap();
-            let ask = load.ask(call).unwrap();
-            let mut out = vec![0; 60_000];
-            let t = std::time::Instant::now();
-            let mut n = 0u32;
-            while t.elapsed().as_millis() < 3000 {
-                for _ in 0..20 {
-                    ask.by_hand(&mut out, &mut [0; 2]);
-                }
-                n += 20;
-            }
-            println!("{}", t.elapsed().as_nanos() as f64 / n as f64);
             ExitCode::SUCCESS
         }
         ["walks"] => {
@@ -71,7 +49,7 @@ fn usage() -> ExitCode {
 
 /// Prints the tables, and writes them and the picture beside this program's sources.
 fn all() -> ExitCode {
-    let lines = report::calls(&loads::all());
+    let lines = report::calls(&loads::all(), |_| true);
     let text = report::text(&lines);
     print!("{text}");
     let files = [("results.md", text), ("results.svg", picture::svg(&lines))];

@@ -1,6 +1,6 @@
-//! The tables, as Markdown.
+//! The tables, as Markdown. Their words stay the same from run to run.
 
-use crate::ask::{Call, CALLS};
+use crate::ask::{Ask, Call, CALLS};
 use crate::loads::{self, Load};
 use crate::timing::{timed, Pair};
 use std::fmt::Write;
@@ -12,50 +12,57 @@ pub struct Line {
     pub times: Pair,
 }
 
-/// Every call on every load that it fits.
-pub fn calls(loads: &[Load]) -> Vec<Line> {
-    loads
-        .iter()
-        .flat_map(|load| calls_of(load, |_| true))
-        .collect()
-}
-
-/// The wanted calls on one load.
-pub fn calls_of(load: &Load, wanted: impl Fn(Call) -> bool) -> Vec<Line> {
-    let mut lines = Vec::new();
-    for call in CALLS.into_iter().filter(|&call| wanted(call)) {
-        if let Some(ask) = load.ask(call) {
-            lines.push(Line {
-                load: load.name.clone(),
-                nodes: load.nodes(),
-                call,
-                times: timed(&load.name, &ask),
-            });
+/// Every wanted call on every load that it fits.
+pub fn calls(loads: &[Load], wanted: impl Fn(Call) -> bool) -> Vec<Line> {
+    let mut cells = Vec::new();
+    let mut nodes = Vec::new();
+    for load in loads {
+        for call in CALLS.into_iter().filter(|&call| wanted(call)) {
+            if let Some(ask) = load.ask(call) {
+                cells.push((load.name.clone(), ask));
+                nodes.push(load.nodes());
+            }
         }
+    }
+    let times = timed(&cells);
+    let mut lines = Vec::new();
+    for (((load, ask), nodes), times) in cells.into_iter().zip(nodes).zip(times) {
+        lines.push(Line {
+            load,
+            nodes,
+            call: ask.call,
+            times,
+        });
     }
     lines
 }
 
-/// All tables. Their words stay the same from run to run.
+/// All tables.
 pub fn text(lines: &[Line]) -> String {
-    let mut text = String::from("## Every call\n\n");
-    text += "Best of many rounds, engine and hand-written version in turn, in nanoseconds a call. ";
-    text += "A star marks a ratio above 1.0, for evaluate and sheet above 0.8.\n\n";
-    text += &calls_text(lines);
-    text += "\n## A node in a month of waiting\n\n";
-    text += "Nanoseconds: payment with a wait of 600 less payment with a wait of 0, divided by 600 and by the nodes of the test.\n\n";
-    text += &walks();
-    text += "\n## As nodes and months double\n";
-    text += &doubling();
-    text += "\n## Stack of the engine\n\n";
-    text += "Bytes painted over, the wrapper's frame among them. A star marks more than 65,536 in a call other than sheet.\n\n";
-    text += &crate::stack::text();
-    text
+    let parts = [
+        "## Every call\n\nBest of many rounds, engine and hand-written version in turn, in nanoseconds a call. \
+         A star marks a ratio above 1.0, for evaluate and sheet above 0.8.\n\n",
+        &calls_text(lines),
+        "\n## A node in a month of waiting\n\nNanoseconds: payment with a wait of 600 less payment with a \
+         wait of 0, divided by 600 and by the nodes of the test (`G`, both trees).\n\n",
+        &walks(),
+        "\n## The hand-written version beside the anchor\n\nThe anchor is an earlier version by hand, \
+         measured on a machine about 1.5 times as fast as the one that these tables are made on: a quotient \
+         below 1.5 is faster than the anchor. Times in nanoseconds.\n\n",
+        &anchors(lines),
+        "\n## As nodes and months double\n\nNanoseconds a call.\n",
+        &doubling(),
+        "\n## Stack of the engine\n\nBytes painted over, a wrapper's frame of some 200 bytes among them. A \
+         star marks more than 65,536 in a call other than sheet.\n\n",
+        &crate::stack::text(),
+    ];
+    parts.concat()
 }
 
 pub fn calls_text(lines: &[Line]) -> String {
     let mut text = String::from(
-        "| load | nodes | call | engine ns | hand-written ns | ratio |\n|---|---:|---|---:|---:|---:|\n",
+        "| load | nodes | call | engine ns | hand-written ns | ratio |\n\
+         |---|---:|---|---:|---:|---:|\n",
     );
     for line in lines {
         let Line {
@@ -75,96 +82,181 @@ pub fn calls_text(lines: &[Line]) -> String {
 }
 
 fn pair(call: Call, times: Pair) -> String {
-    format!(
-        "{} | {} | {}",
-        grouped(times.engine),
-        grouped(times.by_hand),
-        ratio(call, times)
-    )
+    let (engine, by_hand) = (grouped(times.engine), grouped(times.by_hand));
+    format!("{engine} | {by_hand} | {}", ratio(call.aim(), times))
 }
 
-pub fn grouped(time: f64) -> String {
-    match time < 1000.0 {
-        true => format!("{time:.0}"),
-        false => {
-            let digits = format!("{time:.0}");
-            let mut text = String::new();
-            for (k, digit) in digits.chars().enumerate() {
-                if k > 0 && (digits.len() - k) % 3 == 0 {
-                    text.push(',');
-                }
-                text.push(digit);
-            }
-            text
+/// A whole number, its digits in groups of three.
+pub fn grouped(number: f64) -> String {
+    let digits = format!("{number:.0}");
+    let mut text = String::new();
+    for (k, digit) in digits.chars().enumerate() {
+        if k > 0 && (digits.len() - k) % 3 == 0 {
+            text.push(',');
         }
+        text.push(digit);
     }
+    text
 }
 
 /// A star marks a ratio above the aim.
-fn ratio(call: Call, times: Pair) -> String {
+fn ratio(aim: f64, times: Pair) -> String {
     let ratio = times.ratio();
-    let star = if ratio > call.aim() { " *" } else { "" };
+    let star = if ratio > aim { " *" } else { "" };
     format!("{ratio:.2}{star}")
+}
+
+/// What the first call takes more than the second, for each of `count` things.
+fn share(more: Pair, less: Pair, count: usize) -> Pair {
+    Pair {
+        engine: (more.engine - less.engine) / count as f64,
+        by_hand: (more.by_hand - less.by_hand) / count as f64,
+    }
+}
+
+fn two(name: &str, more: Option<Ask>, less: Option<Ask>, count: usize) -> Pair {
+    let cells = [more, less].map(|ask| (name.to_string(), ask.expect("the call fits")));
+    let times = timed(&cells);
+    share(times[0], times[1], count)
 }
 
 /// Nanoseconds a node-month of a wait.
 pub fn walks() -> String {
     let mut text = String::from(
-        "| test of the wait | nodes of the test | engine | hand-written | ratio |\n|---|---:|---:|---:|---:|\n",
+        "| test of the wait | nodes of the test | engine | hand-written | ratio |\n\
+         |---|---:|---:|---:|---:|\n",
     );
     for (l, r) in [(127, 128), (5, 5), (1, 1), (64, 65)] {
-        let times = [600, 0].map(|d| {
-            let ask = loads::wait_in_600(d, l, r).ask(Call::Payment).unwrap();
-            timed("walk", &ask)
-        });
         let nodes = 2 * (l + r) - 1;
-        let share = |one: f64, two: f64| (one - two) / 600.0 / nodes as f64;
-        let engine = share(times[0].engine, times[1].engine);
-        let by_hand = share(times[0].by_hand, times[1].by_hand);
-        let ratio = engine / by_hand;
-        let star = if ratio > 1.0 { " *" } else { "" };
+        let [more, less] = [600, 0].map(|d| loads::wait_in_600(d, l, r).ask(Call::Payment));
+        let times = two("walk", more, less, 600 * nodes);
+        let Pair { engine, by_hand } = times;
+        let ratio = ratio(1.0, times);
         let _ = writeln!(
             text,
-            "| {l} and {r} leaves | {nodes} | {engine:.2} | {by_hand:.2} | {ratio:.2}{star} |"
+            "| {l} and {r} leaves | {nodes} | {engine:.2} | {by_hand:.2} | {ratio} |"
+        );
+    }
+    text
+}
+
+/// The anchor's figures in nanoseconds: check, step, compile, evaluate, sheet.
+const ANCHORS: [(&str, [f64; 5]); 3] = [
+    ("typical", [400.0, 480.0, 280.0, 3_600.0, 13_000.0]),
+    ("flat sum", [2_900.0, 3_900.0, 4_000.0, 3_200.0, 15_000.0]),
+    (
+        "one wait",
+        [3_000.0, 4_300.0, 2_700.0, 730_000.0, 730_000.0],
+    ),
+];
+
+fn anchors(lines: &[Line]) -> String {
+    let mut text =
+        String::from("| what | anchor | hand-written here | quotient |\n|---|---:|---:|---:|\n");
+    let calls = [
+        Call::Check,
+        Call::Step,
+        Call::Compile,
+        Call::Evaluate,
+        Call::Sheet,
+    ];
+    for (load, anchors) in ANCHORS {
+        for (call, anchor) in calls.into_iter().zip(anchors) {
+            let found = |line: &&Line| line.load.starts_with(load) && line.call == call;
+            let Some(line) = lines.iter().find(found) else {
+                continue;
+            };
+            let here = line.times.by_hand;
+            let _ = writeln!(
+                text,
+                "| {}, {} | {} | {} | {:.2} |",
+                line.load,
+                call.name(),
+                grouped(anchor),
+                grouped(here),
+                here / anchor
+            );
+        }
+    }
+    let node = two(
+        "node",
+        loads::flat("", 512).ask(Call::Check),
+        loads::flat("", 8).ask(Call::Check),
+        504,
+    );
+    let month = two(
+        "node-month",
+        loads::wait_in_600(600, 127, 128).ask(Call::Payment),
+        loads::wait_in_600(0, 127, 128).ask(Call::Payment),
+        600 * 509,
+    );
+    let number = two(
+        "number",
+        loads::nothing(600, 8).ask(Call::Sheet),
+        loads::nothing(600, 1).ask(Call::Sheet),
+        7 * 601,
+    );
+    let line = two(
+        "month of a sheet",
+        loads::nothing(600, 0).ask(Call::Sheet),
+        loads::nothing(300, 0).ask(Call::Sheet),
+        300,
+    );
+    for (what, anchor, times) in [
+        ("a node read and checked", 5.5, node),
+        ("a node in a month of waiting", 2.4, month),
+        ("a number read in a sheet", 5.6, number),
+        ("a factor read and a line written in a sheet", 10.6, line),
+    ] {
+        let here = times.by_hand;
+        let _ = writeln!(
+            text,
+            "| {what} | {anchor:.1} | {here:.1} | {:.2} |",
+            here / anchor
         );
     }
     text
 }
 
 /// As nodes and months double.
-pub fn doubling() -> String {
+fn doubling() -> String {
     let mut text = String::new();
     let sizes = [8, 16, 32, 64, 128, 256, 512];
     let sums = sizes.map(|nodes| (nodes, loads::flat("flat sum", nodes)));
-    text += &growth("flat sum", "nodes", &sums, &CALLS);
+    text += &growth("flat sum: nodes", &sums, &CALLS);
     let tests = sizes.map(|nodes| {
         let leaves = (nodes - 2) / 2;
         let load = loads::wait("test", 600, leaves / 2, leaves - leaves / 2);
         (nodes, load)
     });
     let waiting = [Call::Payment, Call::Evaluate, Call::Sheet];
-    text += &growth("one wait of 600", "nodes", &tests, &waiting);
+    text += &growth("one wait of 600: nodes", &tests, &waiting);
     let months = [75, 150, 300, 600].map(|d| (d, loads::wait("months", d as i64, 64, 65)));
     text += &growth(
-        "one wait, test of 257 nodes, f = d",
-        "months",
+        "one wait, test of 257 nodes, f the same: months",
         &months,
         &waiting,
     );
     text
 }
 
-fn growth(name: &str, what: &str, loads: &[(usize, Load)], calls: &[Call]) -> String {
+fn growth(name: &str, loads: &[(usize, Load)], calls: &[Call]) -> String {
     let mut text = format!(
-        "\n| {name}: {what} | call | engine ns | hand-written ns | ratio |\n|---:|---|---:|---:|---:|\n"
+        "\n| {name} | call | engine ns | hand-written ns | ratio |\n|---:|---|---:|---:|---:|\n"
     );
+    let mut cells = Vec::new();
+    let mut sizes = Vec::new();
     for &call in calls {
         for (size, load) in loads {
             if let Some(ask) = load.ask(call) {
-                let times = timed(name, &ask);
-                let _ = writeln!(text, "| {size} | {} | {} |", call.name(), pair(call, times));
+                cells.push((name.to_string(), ask));
+                sizes.push(size);
             }
         }
+    }
+    for ((times, (_, ask)), size) in timed(&cells).into_iter().zip(&cells).zip(sizes) {
+        let name = ask.call.name();
+        let _ = writeln!(text, "| {size} | {name} | {} |", pair(ask.call, times));
     }
     text
 }

@@ -53,6 +53,12 @@ fn most(call: Call) -> (usize, String) {
             continue;
         };
         let mut out = vec![0; 60_000];
+        let told = ask.engine(&mut out, &mut [0; 2]);
+        assert!(
+            told == 0 && !out.starts_with(b"refused"),
+            "{}: {told}",
+            load.name
+        );
         let mut made = Made {
             ask: &ask,
             out: &mut out,

@@ -12,20 +12,51 @@ pub struct Pair {
 }
 
 impl Pair {
+    pub const WORST: Pair = Pair {
+        engine: f64::MAX,
+        by_hand: f64::MAX,
+    };
+
     pub fn ratio(self) -> f64 {
         self.engine / self.by_hand
+    }
+
+    fn better(self, other: Pair) -> Pair {
+        Pair {
+            engine: self.engine.min(other.engine),
+            by_hand: self.by_hand.min(other.by_hand),
+        }
     }
 }
 
 type Side = fn(&Ask, &mut [u8], &mut [i64]) -> i32;
 
+/// A batch of calls lasts at least this long, in nanoseconds.
 const BATCH: f64 = 25_000.0;
+/// Rounds in a pass over all cells, and fewer where a call takes longer than 200 us.
+const ROUNDS: usize = 100;
+const FEWER: usize = 20;
+/// A neighbour may slow the machine down for seconds, so each cell is taken up several times.
+const PASSES: usize = 3;
 
-/// Stops the program where the sides differ, and takes the times where they agree.
-pub fn timed(name: &str, ask: &Ask) -> Pair {
-    let [engine, by_hand] = ask.both(60_000, 2);
+/// The best times of each call. Where the sides differ or refuse, the program ends.
+pub fn timed(cells: &[(String, Ask)]) -> Vec<Pair> {
+    for (name, ask) in cells {
+        agreed(name, ask);
+    }
+    let mut best = vec![Pair::WORST; cells.len()];
+    for _ in 0..PASSES {
+        for (best, (_, ask)) in best.iter_mut().zip(cells) {
+            *best = best.better(pass(ask));
+        }
+    }
+    best
+}
+
+fn agreed(name: &str, ask: &Ask) {
+    let [engine, by_hand] = ask.both(60_000, 3);
+    let call = ask.call.name();
     if engine != by_hand {
-        let call = ask.call.name();
         eprintln!(
             "{name}: {call}: the sides differ: {} and {}",
             engine.0, by_hand.0
@@ -33,28 +64,27 @@ pub fn timed(name: &str, ask: &Ask) -> Pair {
         eprintln!("{}", String::from_utf8_lossy(&ask.text));
         std::process::exit(1);
     }
-    if engine.0 != 0 {
-        eprintln!("{name}: {}: refused with {}", ask.call.name(), engine.0);
+    if engine.0 != 0 || engine.2.starts_with(b"refused") {
+        eprintln!("{name}: {call}: refused with {}", engine.0);
         std::process::exit(1);
     }
+}
+
+fn pass(ask: &Ask) -> Pair {
     let mut lent = (vec![0; 60_000], [0; 2]);
     let sides: [Side; 2] = [Ask::engine, Ask::by_hand];
-    let mut best = [f64::MAX; 2];
-    let once: Vec<f64> = sides
-        .iter()
-        .map(|&side| batch(side, ask, 1, &mut lent))
-        .collect();
-    let times = sides.map(|side| {
-        let call = (0..3)
+    let once = sides.map(|side| {
+        (0..3)
             .map(|_| batch(side, ask, 1, &mut lent))
-            .fold(f64::MAX, f64::min);
-        (BATCH / call).ceil().clamp(1.0, 10_000.0) as u32
+            .fold(f64::MAX, f64::min)
     });
+    let times = once.map(|call| (BATCH / call).ceil().clamp(1.0, 10_000.0) as u32);
     let rounds = if once[0].max(once[1]) > 200_000.0 {
-        40
+        FEWER
     } else {
-        300
+        ROUNDS
     };
+    let mut best = once;
     for round in 0..rounds {
         for turn in 0..2 {
             let k = (round + turn) % 2;

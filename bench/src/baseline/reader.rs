@@ -235,15 +235,10 @@ impl<'a, const PAYOFF: bool, const MODE: u8> Reader<'a, PAYOFF, MODE> {
         let mut month = number as i32;
         let mut right = end != 0 && (-60..=19_200).contains(&number);
         if self.text.get(end) == Some(&b'+') {
-            let mut lowest = b'0';
-            let mut left = 31;
-            while let Some(&[b'+', b'P', k @ b'0'..=b'7']) = self.text.get(end..end + 3) {
-                right &= k >= lowest && left > 0;
-                left -= 1;
-                lowest = k;
-                month = month.wrapping_add(self.setting(k - b'0'));
-                end += 3;
-            }
+            let (sum, count, stop) = self.settings(end);
+            right &= count <= 31;
+            month = month.wrapping_add(sum);
+            end = stop;
         }
         if !right || !matches!(self.text.get(end), None | Some(b',')) {
             self.refuse(REFUSED_FORM);
@@ -251,6 +246,40 @@ impl<'a, const PAYOFF: bool, const MODE: u8> Reader<'a, PAYOFF, MODE> {
         }
         self.at = end + 1;
         month
+    }
+
+    /// The settings from `end` on: their sum, how many they are (more than 31 where they are out of
+    /// order), and where they end. Two are read at a time.
+    fn settings(&mut self, mut end: usize) -> (i32, usize, usize) {
+        const MASK: u64 = 0x0000_f8ff_fff8_ffff;
+        const TWO: u64 = u64::from_le_bytes(*b"+P0+P0\0\0");
+        let days = &self.sight.days;
+        let (mut sum, mut count, mut last) = (0i32, 0, 0);
+        while let Some(&bytes) = self
+            .text
+            .get(end..)
+            .and_then(|rest| rest.first_chunk::<8>())
+        {
+            let word = u64::from_le_bytes(bytes);
+            if word & MASK != TWO {
+                break;
+            }
+            let (one, two) = ((word >> 16) as usize & 7, (word >> 40) as usize & 7);
+            count += if last <= one && one <= two { 2 } else { 32 };
+            sum = sum.wrapping_add(days[one] + days[two]);
+            last = two;
+            end += 6;
+        }
+        while let Some(&[b'+', b'P', k @ b'0'..=b'7']) = self.text.get(end..end + 3) {
+            let one = (k - b'0') as usize;
+            count += if last <= one { 1 } else { 32 };
+            sum = sum.wrapping_add(days[one & 7]);
+            last = one;
+            end += 3;
+        }
+        // The last is the highest.
+        self.unset |= count > 0 && last >= self.sight.set;
+        (sum, count, end)
     }
 
     #[inline(always)]

@@ -86,7 +86,8 @@ impl Step<'_> {
 
     /// Copies an `S` up to its plan, each `O` of its amount a month nearer.
     fn amount(&mut self, mut from: usize, first: usize, plan: usize) {
-        for row in &self.rows[first..plan] {
+        for node in first..plan {
+            let row = self.rows[node];
             if row.letter != b'O' {
                 continue;
             }
@@ -102,16 +103,9 @@ impl Step<'_> {
                 copy(&mut self.out, self.text, from, at + 4);
                 number::write(&mut self.out, offset - 1);
             }
-            from = after(self.text, at + 4);
+            // A leaf ends where the next node's comma stands.
+            from = self.rows[node + 1].at as usize - 1;
         }
         copy(&mut self.out, self.text, from, self.rows[plan].at as usize);
     }
-}
-
-/// Where the field that begins at `at` ends.
-fn after(text: &[u8], mut at: usize) -> usize {
-    while at < text.len() && text[at] != b',' {
-        at += 1;
-    }
-    at
 }
