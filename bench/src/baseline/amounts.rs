@@ -45,7 +45,7 @@ impl Walk<'_> {
 type Pending = [i64; 128];
 
 /// The same from the last row to the first, for all rows: each node finds its operands on top of the
-/// pending values. In a long test that is quicker than calls.
+/// pending values. For many rows that is quicker than calls.
 #[inline(always)]
 fn backwards(rows: &[Row], values: &[i64], month: usize, pending: &mut Pending) -> i64 {
     let mut top = 0;
@@ -87,7 +87,7 @@ fn backwards(rows: &[Row], values: &[i64], month: usize, pending: &mut Pending) 
     top
 }
 
-/// From how many rows on a test is worked out backwards.
+/// From how many rows on an amount or test is worked out backwards.
 const LONG: usize = 16;
 
 /// The first of the months `from` to `to` in which the test in the rows `node` to `end` holds.
@@ -108,8 +108,11 @@ pub fn tried(
     (from..=to).find(|&month| backwards(test, values, month, &mut pending) != 0)
 }
 
-/// One amount, once.
+/// The amount in the rows `node` to `end`, once.
 #[inline(never)]
-pub fn amount(rows: &[Row], node: usize, values: &[i64], month: usize) -> i64 {
-    Walk { rows, values }.operand(node, month)
+pub fn amount(rows: &[Row], (node, end): (usize, usize), values: &[i64], month: usize) -> i64 {
+    match end - node < LONG {
+        true => Walk { rows, values }.operand(node, month),
+        false => backwards(&rows[node..end], values, month, &mut [0; 128]),
+    }
 }

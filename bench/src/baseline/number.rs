@@ -1,5 +1,7 @@
 //! Whole numbers as text, eight digits at a time.
 
+use super::pieces::append;
+
 /// Where a number ends that is none. It comes with a number that means nothing.
 pub const NONE: (i64, usize) = (0, 0);
 
@@ -140,12 +142,12 @@ fn slowly(text: &[u8], mut at: usize, so_far: u64) -> (i64, usize) {
 /// Appends a number.
 #[inline]
 pub fn write(out: &mut Vec<u8>, number: i64) {
-    if number < 0 {
-        out.push(b'-');
-    }
+    // The sign comes and goes without a branch.
+    append(out, b"-", (number < 0) as usize);
     let size = number.unsigned_abs();
-    if size < 10 {
-        out.push(b'0' + size as u8);
+    if size < 1000 {
+        let small = &SMALL[size as usize];
+        append(out, small, small[3] as usize);
     } else if size < 100_000_000 {
         front(out, size as u32);
     } else {
@@ -159,6 +161,23 @@ pub fn write(out: &mut Vec<u8>, number: i64) {
         out.extend_from_slice(&ascii((size % 100_000_000) as u32).to_le_bytes());
     }
 }
+
+/// The digits of each number below 1000, and how many they are.
+pub static SMALL: [[u8; 4]; 1000] = {
+    let mut all = [[0; 4]; 1000];
+    let mut number = 0;
+    while number < 1000 {
+        let (h, t, u) = (number / 100, number / 10 % 10, number % 10);
+        let (h, t, u) = (b'0' + h as u8, b'0' + t as u8, b'0' + u as u8);
+        all[number] = match number {
+            0..10 => [u, 0, 0, 1],
+            10..100 => [t, u, 0, 2],
+            _ => [h, t, u, 3],
+        };
+        number += 1;
+    }
+    all
+};
 
 /// Appends a number from 0 to 99,999,999 without zeros in front.
 #[inline(always)]

@@ -23,7 +23,7 @@ pub fn paid(rows: &[Row], values: &[i64], node: usize, root: usize, month: usize
         }
         b'S' => match paid(rows, values, row.b as usize, root, month) {
             0 => 0,
-            pence => pence * amount(rows, node + 1, values, root),
+            pence => pence * amount(rows, (node + 1, row.b as usize), values, root),
         },
         b'W' => {
             let last = root + row.x as usize;
@@ -63,7 +63,7 @@ pub fn column(
             column(rows, values, row.b as usize, root, weight, months);
         }
         b'S' => {
-            let amount = amount(rows, node + 1, values, root);
+            let amount = amount(rows, (node + 1, row.b as usize), values, root);
             // Beyond the limit the plan beneath has magnitude 0, so it pays nothing.
             match weight.checked_mul(amount) {
                 Some(weight) if weight != 0 && weight.abs() <= LIMIT => {

@@ -32,7 +32,7 @@ impl Payoff<'_> {
             b'B' => self.fine(node + 1, waited) + self.fine(row.b as usize, waited),
             b'S' => match self.fine(row.b as usize, waited) {
                 0 => 0,
-                value => value * amount(self.rows, node + 1, self.values, waited),
+                value => value * amount(self.rows, (node + 1, row.b as usize), self.values, waited),
             },
             b'W' => {
                 let last = waited + row.x as usize;

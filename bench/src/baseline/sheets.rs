@@ -64,7 +64,7 @@ fn printed(shape: &super::reader::Shape, paid: &mut [i64], factors: &[i64]) -> V
     let mut size = 0;
     let mut made = Vec::with_capacity(48);
     let mut before = None;
-    for ((month, &pence), &left) in MONTHS.iter().zip(&*paid).zip(&left) {
+    for ((month, &pence), &left) in number::SMALL.iter().zip(&*paid).zip(&left) {
         if before != Some((pence, left)) {
             before = Some((pence, left));
             made.clear();
@@ -84,23 +84,6 @@ fn printed(shape: &super::reader::Shape, paid: &mut [i64], factors: &[i64]) -> V
     }
     out
 }
-
-/// The digits of each month, and how many they are.
-static MONTHS: [[u8; 4]; 601] = {
-    let mut months = [[0; 4]; 601];
-    let mut month = 0;
-    while month <= 600 {
-        let (h, t, u) = (month / 100, month / 10 % 10, month % 10);
-        let (h, t, u) = (b'0' + h as u8, b'0' + t as u8, b'0' + u as u8);
-        months[month] = match month {
-            0..10 => [u, 0, 0, 1],
-            10..100 => [t, u, 0, 2],
-            _ => [h, t, u, 3],
-        };
-        month += 1;
-    }
-    months
-};
 
 /// Reads the lines; `None` is a fault of the sheet itself.
 fn lines(input: &[u8]) -> Option<Sheet<'_>> {

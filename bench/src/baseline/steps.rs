@@ -43,7 +43,7 @@ impl Step<'_> {
                 self.amount(row.at as usize, node + 1, plan);
                 match self.step(plan, end) {
                     0 => 0,
-                    pence => pence * amount(self.rows, node + 1, self.values, self.today),
+                    pence => pence * amount(self.rows, (node + 1, plan), self.values, self.today),
                 }
             }
             b'W' => {
