@@ -1,75 +1,159 @@
-//! The table of calls as a picture: ratios on a log scale.
+//! The table of calls as a picture: ratios on a log scale, with the aims marked.
 
 use crate::report::Line;
 use std::fmt::Write;
 
-const LEFT: f64 = 330.0;
-const RIGHT: f64 = 860.0;
-const STEP: f64 = 17.0;
+const WIDTH: f64 = 960.0;
+const LEFT: f64 = 370.0;
+const RIGHT: f64 = 880.0;
+const TOP: f64 = 92.0;
+const ROW: f64 = 18.0;
+const GAP: f64 = 10.0;
 
-fn across(ratio: f64) -> f64 {
-    let (low, high) = (0.1f64.ln(), 200f64.ln());
-    LEFT + (RIGHT - LEFT) * (ratio.clamp(0.1, 200.0).ln() - low) / (high - low)
+const INK: &str = "#222222";
+const OVER: &str = "#b3400e";
+const GOOD: &str = "#1c6e8c";
+
+/// A log scale whose ends are marks that take all ratios in.
+struct Scale {
+    marks: Vec<f64>,
+}
+
+impl Scale {
+    fn of(lines: &[Line]) -> Scale {
+        let all = [
+            0.05, 0.1, 0.2, 0.5, 1.0, 2.0, 5.0, 10.0, 20.0, 50.0, 100.0, 200.0, 500.0,
+        ];
+        let ratios = || lines.iter().map(|line| line.times.ratio());
+        let low = ratios().fold(0.5, f64::min);
+        let high = ratios().fold(2.0, f64::max);
+        let first = all.iter().rposition(|&mark| mark <= low).unwrap_or(0);
+        let last = all
+            .iter()
+            .position(|&mark| mark >= high)
+            .unwrap_or(all.len() - 1);
+        Scale {
+            marks: all[first..=last].to_vec(),
+        }
+    }
+
+    fn across(&self, ratio: f64) -> f64 {
+        let (low, high) = (self.marks[0], self.marks[self.marks.len() - 1]);
+        let share = (ratio.clamp(low, high) / low).ln() / (high / low).ln();
+        LEFT + (RIGHT - LEFT) * share
+    }
+}
+
+fn word(out: &mut String, x: f64, y: f64, anchor: &str, more: &str, text: &str) {
+    let text = text.replace('&', "&amp;").replace('<', "&lt;");
+    let _ = writeln!(
+        out,
+        "<text x=\"{x:.1}\" y=\"{y:.1}\" text-anchor=\"{anchor}\" {more}>{text}</text>"
+    );
+}
+
+fn rule(out: &mut String, from: (f64, f64), to: (f64, f64), color: &str, width: f64) {
+    let _ = writeln!(
+        out,
+        "<line x1=\"{:.1}\" y1=\"{:.1}\" x2=\"{:.1}\" y2=\"{:.1}\" stroke=\"{color}\" stroke-width=\"{width}\"/>",
+        from.0, from.1, to.0, to.1
+    );
 }
 
 pub fn svg(lines: &[Line]) -> String {
-    let mut body = String::new();
-    let mut y = 78.0;
-    let mut load = "";
-    for line in lines {
-        if line.load != load {
-            load = &line.load;
-            y += 12.0;
+    let scale = Scale::of(lines);
+    let mut bands = String::new();
+    let mut rows = String::new();
+    let mut y = TOP;
+    let mut k = 0;
+    let mut groups = 0;
+    while k < lines.len() {
+        let load = &lines[k].load;
+        let count = lines[k..]
+            .iter()
+            .take_while(|line| line.load == *load)
+            .count();
+        if groups % 2 == 0 {
+            let height = count as f64 * ROW + GAP;
             let _ = writeln!(
-                body,
-                "<text x=\"16\" y=\"{}\" class=\"load\">{load}</text>",
-                y + 4.0
+                bands,
+                "<rect x=\"0\" y=\"{y:.1}\" width=\"{WIDTH}\" height=\"{height:.1}\" fill=\"#f3f3ef\"/>"
             );
         }
-        let ratio = line.times.ratio();
-        let class = if ratio > line.call.aim() {
-            "over"
-        } else {
-            "good"
-        };
-        let (x, aim) = (across(ratio), across(line.call.aim()));
-        let _ = writeln!(
-            body,
-            "<text x=\"{}\" y=\"{}\" class=\"call\">{}</text>\
-             <line x1=\"{aim:.1}\" y1=\"{y}\" x2=\"{x:.1}\" y2=\"{y}\" class=\"{class}\"/>\
-             <circle cx=\"{x:.1}\" cy=\"{y}\" r=\"4.5\" class=\"{class}\"/>\
-             <text x=\"{}\" y=\"{}\" class=\"number\">{ratio:.2}</text>",
-            LEFT - 10.0,
-            y + 4.0,
-            line.call.name(),
-            RIGHT + 14.0,
-            y + 4.0,
-        );
-        y += STEP;
+        groups += 1;
+        y += GAP / 2.0;
+        let bold = "font-weight=\"bold\" font-size=\"13\"";
+        word(&mut rows, 16.0, y + 13.0, "start", bold, load);
+        for line in &lines[k..k + count] {
+            let middle = y + ROW / 2.0;
+            let (ratio, aim) = (line.times.ratio(), line.call.aim());
+            let color = if ratio > aim { OVER } else { GOOD };
+            let (from, to) = (scale.across(aim), scale.across(ratio));
+            let plain = "font-size=\"13\"";
+            word(
+                &mut rows,
+                LEFT - 12.0,
+                middle + 4.5,
+                "end",
+                plain,
+                line.call.name(),
+            );
+            rule(&mut rows, (from, middle), (to, middle), color, 3.0);
+            let _ = writeln!(
+                rows,
+                "<circle cx=\"{to:.1}\" cy=\"{middle:.1}\" r=\"4.5\" fill=\"{color}\"/>"
+            );
+            let number = format!("{ratio:.2}");
+            word(&mut rows, WIDTH - 16.0, middle + 4.5, "end", plain, &number);
+            y += ROW;
+        }
+        y += GAP / 2.0;
+        k += count;
     }
-    let bottom = y;
     let mut grid = String::new();
-    for ratio in [
-        0.1, 0.2, 0.5, 0.8, 1.0, 2.0, 5.0, 10.0, 20.0, 50.0, 100.0, 200.0,
+    for &mark in scale.marks.iter().filter(|&&mark| mark != 1.0) {
+        let x = scale.across(mark);
+        rule(&mut grid, (x, TOP), (x, y), "#d4d4d0", 1.0);
+        word(
+            &mut grid,
+            x,
+            TOP - 8.0,
+            "middle",
+            "font-size=\"12\"",
+            &mark.to_string(),
+        );
+    }
+    // The two aims stand close together: their words lean away from each other.
+    for (mark, side, dash) in [
+        (0.8, "end", " stroke-dasharray=\"5 3\""),
+        (1.0, "start", ""),
     ] {
-        let class = match ratio {
-            r if r == 0.8 || r == 1.0 => "aim",
-            _ => "grid",
-        };
-        let x = across(ratio);
+        let x = scale.across(mark);
         let _ = writeln!(
             grid,
-            "<line x1=\"{x:.1}\" y1=\"74\" x2=\"{x:.1}\" y2=\"{bottom}\" class=\"{class}\"/>\
-             <text x=\"{x:.1}\" y=\"68\" class=\"tick\">{ratio}</text>"
+            "<line x1=\"{x:.1}\" y1=\"{TOP}\" x2=\"{x:.1}\" y2=\"{y:.1}\" stroke=\"{INK}\" stroke-width=\"1.5\"{dash}/>"
         );
+        let bold = "font-weight=\"bold\" font-size=\"12\"";
+        word(&mut grid, x, TOP - 8.0, side, bold, &format!("{mark:.1}"));
     }
+    let height = y + 16.0;
+    let mut head = String::new();
+    let title = "Time of the engine over time of the hand-written version";
+    word(
+        &mut head,
+        16.0,
+        28.0,
+        "start",
+        "font-weight=\"bold\" font-size=\"17\"",
+        title,
+    );
+    let note =
+        "Log scale. At or left of its line is the aim: 1.0, dashed 0.8 for evaluate and sheet.";
+    word(&mut head, 16.0, 50.0, "start", "font-size=\"13\"", note);
     format!(
-        "<svg xmlns=\"http://www.w3.org/2000/svg\" viewBox=\"0 0 940 {height}\" width=\"940\" height=\"{height}\" font-family=\"Helvetica, Arial, sans-serif\">\n\
-         <style>.load{{font-size:13px;font-weight:bold;fill:#222}}.call{{font-size:13px;text-anchor:end;fill:#222}}.number{{font-size:13px;fill:#222}}.tick{{font-size:12px;text-anchor:middle;fill:#444}}.grid{{stroke:#ddd}}.aim{{stroke:#222;stroke-width:1.4}}line.over{{stroke:#b3400e;stroke-width:3}}circle.over{{fill:#b3400e}}line.good{{stroke:#1c6e8c;stroke-width:3}}circle.good{{fill:#1c6e8c}}.title{{font-size:16px;font-weight:bold;fill:#111}}.note{{font-size:13px;fill:#333}}</style>\n\
-         <rect width=\"940\" height=\"{height}\" fill=\"#fff\"/>\n\
-         <text x=\"16\" y=\"26\" class=\"title\">Time of the engine over time of the hand-written version</text>\n\
-         <text x=\"16\" y=\"46\" class=\"note\">Log scale. Left of the dark lines is the aim: 1.0, and 0.8 for evaluate and sheet.</text>\n\
-         {grid}{body}</svg>\n",
-        height = bottom + 16.0,
+        "<svg xmlns=\"http://www.w3.org/2000/svg\" viewBox=\"0 0 {WIDTH} {height:.1}\" width=\"{WIDTH}\" \
+         height=\"{height:.1}\" font-family=\"Helvetica, Arial, sans-serif\" fill=\"{INK}\">\n\
+         <title>{title}</title>\n\
+         <rect width=\"{WIDTH}\" height=\"{height:.1}\" fill=\"#ffffff\"/>\n{bands}{head}{grid}{rows}</svg>\n"
     )
 }

@@ -37,7 +37,7 @@ const BATCH: f64 = 25_000.0;
 const ROUNDS: usize = 100;
 const FEWER: usize = 20;
 /// A neighbour may slow the machine down for seconds, so each cell is taken up several times.
-const PASSES: usize = 3;
+const PASSES: usize = 8;
 
 /// The best times of each call. Where the sides differ or refuse, the program ends.
 pub fn timed(cells: &[(String, Ask)]) -> Vec<Pair> {
