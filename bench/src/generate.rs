@@ -232,6 +232,17 @@ fn damaged(random: &mut Random, text: &mut Vec<u8>) {
     let byte = random.of(&[
         "A", "F", "Z", "N", "P0", ",", "0", "-", "9", "+", "L", "\n", "1,", "\u{e9}",
     ]);
+    if random.once_in(3) {
+        // Another letter, mostly of the wrong kind.
+        let letters: Vec<usize> = (0..text.len())
+            .filter(|&k| text[k].is_ascii_uppercase())
+            .collect();
+        if !letters.is_empty() {
+            let other = b"ZTSLBWNOAUKQIGEYVRFHPX"[random.below(22)];
+            text[letters[random.below(letters.len())]] = other;
+            return;
+        }
+    }
     match random.below(4) {
         0 if at < text.len() => drop(text.remove(at)),
         1 => text.truncate(at),

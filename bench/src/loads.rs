@@ -10,6 +10,8 @@ pub struct Load {
     pub payoff: Option<String>,
     pub days: Vec<i64>,
     pub table: Table,
+    /// The month that payment is asked for, where it is not the last; the load is then for it alone.
+    pub month: Option<i64>,
 }
 
 impl Load {
@@ -20,11 +22,15 @@ impl Load {
             plan: Some(plan),
             days: days.into(),
             table,
+            month: None,
         }
     }
 
     /// The call on this load, where it fits.
     pub fn ask(&self, call: Call) -> Option<Ask> {
+        if self.month.is_some() && call != Call::Payment {
+            return None;
+        }
         let text = match call {
             Call::Cut | Call::Evaluate => self.payoff.clone()?,
             Call::Sheet => self.sheet()?,
@@ -38,7 +44,7 @@ impl Load {
             today: 0,
             p: 1,
             q: 2,
-            month: self.table.f,
+            month: self.month.unwrap_or(self.table.f),
         })
     }
 
@@ -174,30 +180,36 @@ fn deep() -> Load {
     Load::plan("32 deep", plan, &[], table(0, 600, 1, 200))
 }
 
-/// Leaves with months as long as can be, three for two inner nodes.
+/// Months as long as can be, and three leaves for two inner nodes. Evaluation meets the first test and
+/// the first leaf alone, so only their months have to lie in the table.
 fn longest() -> Load {
-    fn months(number: i64) -> String {
-        format!("{number}{}", "+P7".repeat(31))
-    }
-    fn waits(count: usize) -> String {
+    let open = "+P7".repeat(31);
+    fn waits(count: usize, open: &str) -> String {
         if count == 0 {
-            return format!("F,{},1,2", months(600));
+            return format!("F,19200{open},1,2");
         }
-        let test = format!("G,O,0,{},O,1,{}", months(600), months(600));
+        let test = format!("G,O,0,19200{open},O,1,19200{open}");
         let half = (count - 1) / 2;
-        format!("W,600,{test},{},{}", waits(half), waits(count - 1 - half))
+        let (one, two) = (waits(half, open), waits(count - 1 - half, open));
+        format!("W,600,{test},{one},{two}")
     }
-    let mut table = table(60, 600, 2, 200);
-    // The first label is below the second in the last month, so that no test waits.
-    table.values[660] = 1;
-    table.values[1321] = 2;
+    let test = format!("R,G,O,0,600{open},O,0,600{open}");
+    let payoff = format!("W,600,{test},F,600{open},1,2,{}", waits(101, &open));
     Load {
         name: "longest payoff".into(),
         plan: None,
-        payoff: Some(waits(102)),
+        payoff: Some(payoff),
         days: vec![0; 8],
-        table,
+        table: table(60, 600, 1, 200),
+        month: None,
     }
+}
+
+/// The same wait as the long one, asked for what it pays in its first month.
+fn first_month() -> Load {
+    let mut load = wait("one wait of 600, its first month", 600, 127, 128);
+    load.month = Some(0);
+    load
 }
 
 fn example() -> Load {
@@ -217,6 +229,7 @@ pub fn all() -> Vec<Load> {
         typical(),
         flat("flat sum, 512 nodes", 512),
         wait("one wait of 600, test of 509", 600, 127, 128),
+        first_month(),
         Load::plan(
             "2 nested waits of 300, tests of 253",
             nested(2, 300, |_| 126),
@@ -276,4 +289,41 @@ pub fn deepest() -> Vec<Load> {
     let mixed = "I,G,N,0,A,".repeat(10) + "N,1" + &",N,1,N,1,N,1".repeat(10);
     add("I in G in I", format!("S,{mixed},T,1,2"));
     loads
+}
+
+#[cfg(test)]
+mod tests {
+    use super::*;
+    use crate::ask::CALLS;
+
+    #[test]
+    fn every_load_is_accepted() {
+        for load in all().into_iter().chain(deepest()) {
+            for ask in CALLS.into_iter().filter_map(|call| load.ask(call)) {
+                let mut out = vec![0; 60_000];
+                let told = ask.by_hand(&mut out, &mut [0; 2]);
+                assert_eq!(told, 0, "{}: {}", load.name, ask.call.name());
+                assert!(!out.starts_with(b"refused"), "{}", load.name);
+            }
+        }
+    }
+
+    #[test]
+    fn loads_are_as_large_as_they_say() {
+        assert_eq!(flat("", 512).nodes(), 512);
+        assert_eq!(wait("", 600, 127, 128).nodes(), 512);
+        assert_eq!(longest().nodes(), 512);
+        assert_eq!(typical().nodes(), 34);
+        let nested = all()
+            .into_iter()
+            .filter(|load| load.name.contains("nested"));
+        assert!(nested.map(|load| load.nodes()).all(|nodes| nodes >= 511));
+        // One level more is refused, so these are 32 deep.
+        for load in deepest().iter().chain([&deep()]) {
+            let plan = format!("L,0,{}", load.plan.as_ref().unwrap());
+            let mut answer = [0];
+            let told = crate::baseline::compile(plan.as_bytes(), &mut [0; 60_000], &mut answer);
+            assert_eq!(told, 4, "{}", load.name);
+        }
+    }
 }

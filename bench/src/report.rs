@@ -43,6 +43,8 @@ pub fn text(lines: &[Line]) -> String {
         "## Every call\n\nBest of many rounds, engine and hand-written version in turn, in nanoseconds a call. \
          A star marks a ratio above 1.0, for evaluate and sheet above 0.8.\n\n",
         &calls_text(lines),
+        "\nOver all loads:\n\n",
+        &summary(lines),
         "\n## A node in a month of waiting\n\nNanoseconds: payment with a wait of 600 less payment with a \
          wait of 0, divided by 600 and by the nodes of the test (`G`, both trees).\n\n",
         &walks(),
@@ -76,6 +78,29 @@ pub fn calls_text(lines: &[Line]) -> String {
             text,
             "| {load} | {nodes} | {name} | {} |",
             pair(*call, *times)
+        );
+    }
+    text
+}
+
+/// The ratios of each call over all loads.
+fn summary(lines: &[Line]) -> String {
+    let mut text = String::from(
+        "| call | least ratio | geometric mean | greatest ratio | aim |\n|---|---:|---:|---:|---:|\n",
+    );
+    for call in CALLS {
+        let ratios: Vec<f64> = lines
+            .iter()
+            .filter(|line| line.call == call)
+            .map(|line| line.times.ratio())
+            .collect();
+        let least = ratios.iter().copied().fold(f64::MAX, f64::min);
+        let greatest = ratios.iter().copied().fold(0.0, f64::max);
+        let mean = (ratios.iter().map(|ratio| ratio.ln()).sum::<f64>() / ratios.len() as f64).exp();
+        let (name, aim) = (call.name(), call.aim());
+        let _ = writeln!(
+            text,
+            "| {name} | {least:.2} | {mean:.2} | {greatest:.2} | {aim:.1} |"
         );
     }
     text
