@@ -63,9 +63,11 @@ impl Writer<'_> {
         let mut text = number.to_string();
         if self.random.once_in(5) {
             let known = if self.tame { self.days.min(8) } else { 8 };
-            let count = [1, 2, 3, 31][self.random.below(4)];
+            let count = [1, 2, 3, 5, 31, 32][self.random.below(if self.tame { 5 } else { 6 })];
             let mut all: Vec<usize> = (0..count).map(|_| self.random.below(known)).collect();
-            all.sort_unstable();
+            if self.tame || !self.random.once_in(4) {
+                all.sort_unstable();
+            }
             if known > 0 {
                 text.extend(all.iter().map(|k| format!("+P{k}")));
             }
@@ -74,6 +76,9 @@ impl Writer<'_> {
     }
 
     fn parties(&mut self) -> String {
+        if self.random.once_in(2) {
+            return "1,2".into();
+        }
         let most = if self.random.once_in(5) { 9 } else { 2 };
         format!(
             "{},{}",
@@ -95,7 +100,26 @@ impl Writer<'_> {
             };
         }
         let months = self.months;
-        let text = match self.random.below(5) {
+        let text = match self.random.below(7) {
+            // A reading ahead that is known in time, or as early as possible.
+            5 if !self.payoff && self.labels > 0 => {
+                let label = self.random.below(self.labels);
+                let delay = self.random.within(0, self.months.clamp(0, 4));
+                let offset = self.random.within(delay - 1, delay).max(0);
+                self.months -= delay;
+                format!("S,O,{label},{offset},L,{delay},{}", self.plan(depth - 1))
+            }
+            // A reading back that only the second plan of a wait may make.
+            6 if !self.payoff && self.labels > 0 => {
+                let label = self.random.below(self.labels);
+                let delay = self.random.within(0, self.months.clamp(0, 4));
+                let test = self.test(depth - 1);
+                let one = self.plan(depth - 1);
+                self.months -= delay;
+                let back = -self.random.within(delay - 1, delay + self.h.min(1)).max(0);
+                let two = self.plan(depth - 1);
+                format!("W,{delay},{test},{one},S,O,{label},{back},{two}")
+            }
             0 if !self.payoff => format!("L,{},{}", self.delay(), self.plan(depth - 1)),
             0 | 1 => format!("B,{},{}", self.plan(depth - 1), self.plan(depth - 1)),
             2 | 3 => format!("S,{},{}", self.amount(depth - 1), self.plan(depth - 1)),
@@ -360,15 +384,19 @@ pub fn ask(random: &mut Random) -> Ask {
         } else {
             0
         },
-        p: random.within(1, 2),
-        q: random.within(1, 3),
+        p: 1,
+        q: 2,
         month: 0,
         days,
         table,
     };
-    ask.month = match random.once_in(20) {
-        true => random.within(-1, f + 1),
-        false => random.within(ask.today, f),
+    if random.once_in(4) {
+        (ask.p, ask.q) = (random.within(1, 2), random.within(1, 3));
+    }
+    ask.month = match random.below(20) {
+        0 => random.within(-1, f + 1),
+        1..=8 => random.within(ask.today, f),
+        _ => random.within(ask.today, f.min(ask.today + 5)),
     };
     if random.once_in(30) {
         ask.today = [-1, f + 1, i64::MAX, i64::MIN][random.below(4)];
