@@ -27,40 +27,38 @@ pub fn read(text: &[u8], at: usize) -> (i64, usize) {
     (-size, end)
 }
 
-/// The number that fills the bytes from `start` to `end`. Its length is known, so nothing waits for
-/// the number before it.
+/// The number in the last `length` of eight bytes, sign among them, where it is that short. Its length
+/// is known, so nothing waits for the number before it, and no sign costs a branch.
 #[inline(always)]
-pub fn read_whole(text: &[u8], start: usize, end: usize) -> Option<i64> {
-    let minus = (text[start] == b'-') as usize;
-    let count = end.wrapping_sub(start + minus);
-    let word = match end.checked_sub(8).and_then(|from| eight_bytes(text, from)) {
-        Some(word) if count.wrapping_sub(1) <= 7 => word,
-        _ => return read_long(text, start, end),
-    };
-    // Zeros in front of the digits.
-    let skip = 64 - 8 * count as u32;
+pub fn read_short(bytes: [u8; 8], length: usize) -> Option<i64> {
+    let word = u64::from_le_bytes(bytes);
+    let minus = (word >> (64 - 8 * length as u32)) as u8 == b'-';
+    let count = length - minus as usize;
+    // Zeros in front of the digits; a minus alone is no number.
+    let skip = 64u32.wrapping_sub(8 * count as u32) & 63;
     let low = ((word ^ 0x3030_3030_3030_3030) >> skip) << skip;
     let others = (low.wrapping_add(0x7676_7676_7676_7676) | low) & 0x8080_8080_8080_8080;
     let zero = (low >> skip) as u8 == 0;
-    if others != 0 || (zero && count + minus > 1) {
+    if others != 0 || count == 0 || (zero && length > 1) {
         return None;
     }
     let sign = -(minus as i64);
     Some((valued(low) as i64 ^ sign) - sign)
 }
 
+/// The number that fills the bytes from `start` to `end`, of any length.
 #[inline(never)]
-fn read_long(text: &[u8], start: usize, end: usize) -> Option<i64> {
+pub fn read_long(text: &[u8], start: usize, end: usize) -> Option<i64> {
     let (number, stop) = read(text, start);
     (stop == end && end > start).then_some(number)
 }
 
 /// A bit for each of 64 bytes that lies below the minus, as comma and line feed do.
 #[inline(always)]
-pub fn ends(block: &[u8; 64]) -> u64 {
+pub fn ends(block: &[u8]) -> u64 {
     const TOP: u64 = 0x8080_8080_8080_8080;
     let mut mask = 0;
-    for (k, bytes) in block.chunks_exact(8).enumerate() {
+    for (k, bytes) in block.chunks_exact(8).take(8).enumerate() {
         let word = u64::from_le_bytes([
             bytes[0], bytes[1], bytes[2], bytes[3], bytes[4], bytes[5], bytes[6], bytes[7],
         ]);
@@ -203,6 +201,12 @@ fn ascii(number: u32) -> u64 {
 mod tests {
     use super::*;
 
+    fn short(text: &[u8]) -> Option<i64> {
+        let mut bytes = *b"9-,\n7-9,";
+        bytes[8 - text.len()..].copy_from_slice(text);
+        read_short(bytes, text.len())
+    }
+
     #[test]
     fn numbers_come_back() {
         let mut sizes = vec![0i64, 7, 10, 99, 100, 9_999, 10_000, 99_999_999, 100_000_000];
@@ -220,13 +224,14 @@ mod tests {
                 assert_eq!(out, number.to_string().into_bytes());
                 if size < 1_000_000_000_000_000 {
                     assert_eq!(read(&out, 0), (number, out.len()));
-                    assert_eq!(read_whole(&out, 0, out.len()), Some(number));
+                    assert_eq!(read_long(&out, 0, out.len()), Some(number));
+                    if out.len() <= 8 {
+                        assert_eq!(short(&out), Some(number));
+                    }
                     let end = out.len();
                     out.extend_from_slice(b",12345678,,,");
                     assert_eq!(read(&out, 0), (number, end));
-                    assert_eq!(read_whole(&out, 0, end), Some(number));
-                    let later = [b"plan,Z\n,", &out[..]].concat();
-                    assert_eq!(read_whole(&later, 8, 8 + end), Some(number));
+                    assert_eq!(read_long(&out, 0, end), Some(number));
                 }
             }
         }
@@ -248,7 +253,10 @@ mod tests {
             assert_eq!(read(text.as_bytes(), 0).1, 0, "{text}");
             let longer = format!("12345678{text},12345678");
             let end = 8 + text.len();
-            assert_eq!(read_whole(longer.as_bytes(), 8, end), None, "{text}");
+            assert_eq!(read_long(longer.as_bytes(), 8, end), None, "{text}");
+            if (1..=8).contains(&text.len()) {
+                assert_eq!(short(text.as_bytes()), None, "{text}");
+            }
         }
         assert_eq!(read(b"07", 0), (0, 1));
     }

@@ -161,27 +161,35 @@ fn numbers(input: &[u8], at: usize, kept: &mut Vec<i64>) -> Option<usize> {
     let mut start = at + 1;
     let mut from = start;
     while from < input.len() {
-        let mut last = [0; 64];
-        let block = match input[from..].first_chunk() {
-            Some(block) => block,
+        // A block of 64 bytes and the eight before it, for a number that ends in it. Two words of the
+        // sheet stand before every number, so there are eight.
+        let before = from.checked_sub(8)?;
+        let mut last = [0; 72];
+        let window: &[u8; 72] = match input[before..].first_chunk() {
+            Some(window) => window,
             None => {
-                last[..input.len() - from].copy_from_slice(&input[from..]);
+                last[..input.len() - before].copy_from_slice(&input[before..]);
                 &last
             }
         };
-        let mut ends = number::ends(block);
+        let mut ends = number::ends(&window[8..]);
         while ends != 0 {
-            let end = from + ends.trailing_zeros() as usize;
+            let place = ends.trailing_zeros() as usize & 63;
+            let end = from + place;
             ends &= ends - 1;
-            let byte = *input.get(end)?;
-            let number = number::read_whole(input, start, end)?;
-            if !(-LIMIT..=LIMIT).contains(&number) {
-                return None;
-            }
+            let length = end - start;
+            let number = match length.wrapping_sub(1) < 8 {
+                true => number::read_short(*window[place..].first_chunk()?, length)?,
+                false => {
+                    let number = number::read_long(input, start, end)?;
+                    (-LIMIT..=LIMIT).contains(&number).then_some(number)?
+                }
+            };
             kept.push(number);
-            match byte {
-                b',' => start = end + 1,
-                b'\n' => return Some(end + 1),
+            start = end + 1;
+            match window[place + 8] {
+                b',' => {}
+                b'\n' => return Some(start),
                 _ => return None,
             }
         }
