@@ -45,7 +45,7 @@ pub fn column(
     node: usize,
     root: usize,
     weight: i64,
-    months: &mut [i64; 601],
+    months: &mut [i64],
 ) {
     let row = rows[node];
     match row.letter {

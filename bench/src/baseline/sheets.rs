@@ -9,7 +9,9 @@ use super::{LIMIT, PLAN_BYTES, REFUSED_FORM, REFUSED_LONG, SHEET_BYTES};
 
 struct Sheet<'a> {
     plan: &'a [u8],
-    days: Vec<i64>,
+    /// The settings, and behind them the span and the pair.
+    few: Vec<i64>,
+    days: usize,
     h: i64,
     f: i64,
     p: i64,
@@ -37,17 +39,22 @@ pub fn answered(input: &[u8]) -> Result<Vec<u8>, u8> {
         bounds: &sheet.bounds,
         values,
     };
-    let sight = Sight::of(&sheet.days, &table, Some((sheet.p, sheet.q)), || true);
+    let sight = Sight::of(
+        &sheet.few[..sheet.days],
+        &table,
+        Some((sheet.p, sheet.q)),
+        || true,
+    );
     let (reader, shape) = read::<false, ROWS>(sheet.plan, &sight, 0);
     super::accepted(&reader, &sight, &shape, 0)?;
-    let mut months = [0; 601];
+    let mut months = vec![0; factors.len()];
     column(&reader.rows, values, 0, 0, 1, &mut months);
-    Ok(printed(&shape, &mut months[..factors.len()], factors))
+    Ok(printed(&shape, &months, factors))
 }
 
-/// The lines of an accepted sheet; `months` holds what is paid, and then what is left.
-fn printed(shape: &super::reader::Shape, paid: &mut [i64], factors: &[i64]) -> Vec<u8> {
-    let mut left = [0; 601];
+/// The lines of an accepted sheet.
+fn printed(shape: &super::reader::Shape, paid: &[i64], factors: &[i64]) -> Vec<u8> {
+    let mut left = vec![0; paid.len()];
     let mut rest = 0;
     for month in (0..paid.len()).rev() {
         rest += paid[month] * factors[month];
@@ -64,7 +71,7 @@ fn printed(shape: &super::reader::Shape, paid: &mut [i64], factors: &[i64]) -> V
     let mut size = 0;
     let mut made = Vec::with_capacity(48);
     let mut before = None;
-    for ((month, &pence), &left) in number::SMALL.iter().zip(&*paid).zip(&left) {
+    for ((month, &pence), &left) in number::SMALL.iter().zip(paid).zip(&left) {
         if before != Some((pence, left)) {
             before = Some((pence, left));
             made.clear();
@@ -91,11 +98,11 @@ fn lines(input: &[u8]) -> Option<Sheet<'_>> {
     let end = at + input[at..].iter().position(|&byte| byte == b'\n')?;
     let plan = &input[at..end];
     at = word(input, end + 1, b"days")?;
-    let mut days = Vec::new();
-    at = numbers(input, at, &mut days)?;
-    let mut span = Vec::with_capacity(2);
-    at = numbers(input, word(input, at, b"span")?, &mut span)?;
-    let &[h, f] = &span[..] else {
+    let mut few = Vec::with_capacity(16);
+    at = numbers(input, at, &mut few)?;
+    let days = few.len();
+    at = numbers(input, word(input, at, b"span")?, &mut few)?;
+    let [h, f] = few[days..] else {
         return None;
     };
     let mut kept = Vec::with_capacity((input.len() - at) / 2);
@@ -104,9 +111,8 @@ fn lines(input: &[u8]) -> Option<Sheet<'_>> {
     if factors == 0 || factors as i64 != f + 1 {
         return None;
     }
-    let mut pair = Vec::with_capacity(2);
-    at = numbers(input, word(input, at, b"pair")?, &mut pair)?;
-    let &[p, q] = &pair[..] else {
+    at = numbers(input, word(input, at, b"pair")?, &mut few)?;
+    let [p, q] = few[days + 2..] else {
         return None;
     };
     let mut bounds = Vec::with_capacity(8);
@@ -127,6 +133,7 @@ fn lines(input: &[u8]) -> Option<Sheet<'_>> {
     }
     Some(Sheet {
         plan,
+        few,
         days,
         h,
         f,
