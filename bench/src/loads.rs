@@ -103,7 +103,11 @@ fn tree(leaves: usize, labels: usize, next: &mut usize) -> String {
         };
     }
     let left = tree(leaves / 2, labels, next);
-    let letter = if leaves.ilog2() % 2 == 0 { "A" } else { "U" };
+    let letter = if leaves.ilog2().is_multiple_of(2) {
+        "A"
+    } else {
+        "U"
+    };
     format!(
         "{letter},{left},{}",
         tree(leaves - leaves / 2, labels, next)

@@ -54,7 +54,7 @@ pub fn text(lines: &[Line]) -> String {
         &anchors(lines),
         "\n## As nodes and months double\n\nNanoseconds a call.\n",
         &doubling(),
-        "\n## Stack of the engine\n\nBytes painted over, a wrapper's frame of some 200 bytes among them. A \
+        "\n## Stack of the engine\n\nBytes painted over, the small frames of the wrapper among them. A \
          star marks more than 65,536 in a call other than sheet.\n\n",
         &crate::stack::text(),
     ];

@@ -155,7 +155,7 @@ fn word(input: &[u8], at: usize, word: &[u8]) -> Option<usize> {
 /// A number in the range of a sheet, and where it ends.
 fn field(input: &[u8], at: usize) -> Option<(i64, usize)> {
     let (number, end) = number::read(input, at);
-    (end != 0 && -LIMIT <= number && number <= LIMIT).then_some((number, end))
+    (end != 0 && (-LIMIT..=LIMIT).contains(&number)).then_some((number, end))
 }
 
 /// The rest of a line: numbers with a comma in front of each. Answers where the next line begins.
