@@ -17,7 +17,11 @@ pub fn options(words: &[&str]) -> Option<(u64, u64)> {
     Some(options)
 }
 
-pub fn run(calls: u64, seed: u64) -> ExitCode {
+/// How often each call was refused with each number (0: accepted), and how many calls differ.
+type Counts = ([[u64; 15]; 7], u64);
+
+/// Makes the calls on both sides; the first few that differ are printed.
+pub fn compare(calls: u64, seed: u64) -> Counts {
     let mut counts = [[0u64; 15]; 7];
     let mut failed = 0;
     for k in 0..calls {
@@ -31,15 +35,24 @@ pub fn run(calls: u64, seed: u64) -> ExitCode {
                 differ(&ask, room, places, &engine, &by_hand);
             }
         }
-        let refused_sheet = by_hand.2.starts_with(b"refused,");
-        let number = match refused_sheet && by_hand.0 == 0 {
-            true => String::from_utf8_lossy(&by_hand.2[8..by_hand.1[0] as usize - 1])
-                .parse()
-                .unwrap_or(0),
-            false => by_hand.0 as usize,
-        };
-        counts[ask.call as usize][number] += 1;
+        counts[ask.call as usize][refusal(&by_hand)] += 1;
     }
+    (counts, failed)
+}
+
+/// The refusal's number, also where a sheet's line says it.
+fn refusal((told, answer, out): &Told) -> usize {
+    match told {
+        0 if out.starts_with(b"refused,") => {
+            let line = String::from_utf8_lossy(&out[8..answer[0] as usize - 1]);
+            line.parse().unwrap_or(0)
+        }
+        _ => *told as usize,
+    }
+}
+
+pub fn run(calls: u64, seed: u64) -> ExitCode {
+    let (counts, failed) = compare(calls, seed);
     for call in CALLS {
         let counts = counts[call as usize];
         let refused: Vec<String> = (1..15)

@@ -49,6 +49,12 @@ fn usage() -> ExitCode {
 
 /// Prints the tables, and writes them and the picture beside this program's sources.
 fn all() -> ExitCode {
+    // Times of a version that answers something else would mean nothing.
+    let (_, failed) = agree::compare(report::RANDOM_CALLS, 1);
+    if failed > 0 {
+        eprintln!("{failed} random calls differ");
+        return ExitCode::FAILURE;
+    }
     let lines = report::calls(&loads::all(), |_| true);
     let text = report::text(&lines);
     print!("{text}");

@@ -37,10 +37,14 @@ pub fn calls(loads: &[Load], wanted: impl Fn(Call) -> bool) -> Vec<Line> {
     lines
 }
 
+/// So many random calls are compared before times are taken, as the text says.
+pub const RANDOM_CALLS: u64 = 20_000;
+
 /// All tables.
 pub fn text(lines: &[Line]) -> String {
     let parts = [
-        "## Every call\n\nBest of many rounds, engine and hand-written version in turn, in nanoseconds a call. \
+        "## Every call\n\nBefore times were taken, both sides answered the same, byte by byte: in 20,000 \
+         random calls and in every call below.\n\nBest of many rounds, engine and hand-written version in turn, in nanoseconds a call. \
          A star marks a ratio above 1.0, for evaluate and sheet above 0.8.\n\n",
         &calls_text(lines),
         "\nOver all loads:\n\n",
