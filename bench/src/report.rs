@@ -52,9 +52,10 @@ pub fn text(lines: &[Line]) -> String {
         "\n## A node in a month of waiting\n\nNanoseconds: payment with a wait of 600 less payment with a \
          wait of 0, divided by 600 and by the nodes of the test (`G`, both trees).\n\n",
         &walks(),
-        "\n## The hand-written version beside the anchor\n\nThe anchor is an earlier version by hand, \
-         measured on a machine about 1.5 times as fast as the one that these tables are made on: a quotient \
-         below 1.5 is faster than the anchor. Times in nanoseconds.\n\n",
+        "\n## The hand-written version beside the anchor\n\nThe anchor is an earlier version by hand. Its \
+         figures were taken on another machine, said to be about 1.5 times as fast; that factor was not \
+         measured in this run. If it holds, a quotient below 1.5 is faster than the anchor. Times in \
+         nanoseconds.\n\n",
         &anchors(lines),
         "\n## As nodes and months double\n\nNanoseconds a call.\n",
         &doubling(),
