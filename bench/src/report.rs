@@ -50,7 +50,8 @@ pub fn text(lines: &[Line]) -> String {
         "\nOver all loads:\n\n",
         &summary(lines),
         "\n## A node in a month of waiting\n\nNanoseconds: payment with a wait of 600 less payment with a \
-         wait of 0, divided by 600 and by the nodes of the test (`G`, both trees).\n\n",
+         wait of 0, divided by 600 and by the nodes of the test (`G`, both trees). Another build of the same code \
+         moves these by a fifth and more (README.md).\n\n",
         &walks(),
         "\n## The hand-written version beside the anchor\n\nThe anchor is an earlier version by hand. Its \
          figures were taken on another machine, said to be about 1.5 times as fast; that factor was not \
