@@ -1,0 +1,92 @@
+//! The stack that each call takes: it is made on a painted stack, and what is painted over is counted.
+
+use crate::ask::{Ask, Call, CALLS};
+use crate::loads;
+use std::fmt::Write;
+
+const BYTES: usize = 1 << 20;
+const PAINT: u64 = 0x5afe_5afe_c0de_c0de;
+
+struct Made<'a> {
+    ask: &'a Ask,
+    out: &'a mut [u8],
+    answer: &'a mut [i64],
+}
+
+extern "C" fn make(made: *mut Made) {
+    // SAFETY: `used` hands over a pointer to a value that lives through the call.
+    let made = unsafe { &mut *made };
+    made.ask.engine(made.out, made.answer);
+}
+
+extern "C" fn nothing(_: *mut Made) {}
+
+/// The bytes of stack that are written to from the call of `entry` on.
+fn used(entry: extern "C" fn(*mut Made), made: &mut Made) -> usize {
+    let mut stack = vec![PAINT; BYTES / 8];
+    let top = stack.as_mut_ptr_range().end;
+    // SAFETY: the new stack belongs to this call alone, has room, and its top is a multiple of 16;
+    // the old stack pointer is kept in a register that the callee restores.
+    unsafe {
+        let top = ((top as usize) & !15) as *mut u64;
+        std::arch::asm!(
+            "mov r12, rsp",
+            "mov rsp, {top}",
+            "call {entry}",
+            "mov rsp, r12",
+            top = in(reg) top,
+            entry = in(reg) entry,
+            in("rdi") made as *mut Made,
+            out("r12") _,
+            clobber_abi("C"),
+        );
+    }
+    let clean = stack.iter().take_while(|&&word| word == PAINT).count();
+    BYTES - 8 * clean
+}
+
+/// The most bytes over all loads, for a call.
+fn most(call: Call) -> (usize, String) {
+    let mut most = (0, String::new());
+    for load in loads::all().into_iter().chain(loads::deepest()) {
+        let Some(ask) = load.ask(call) else {
+            continue;
+        };
+        let mut out = vec![0; 60_000];
+        let told = ask.engine(&mut out, &mut [0; 2]);
+        assert!(
+            told == 0 && !out.starts_with(b"refused"),
+            "{}: {told}",
+            load.name
+        );
+        let mut made = Made {
+            ask: &ask,
+            out: &mut out,
+            answer: &mut [0; 2],
+        };
+        let bytes = used(make, &mut made) - used(nothing, &mut made);
+        if bytes > most.0 {
+            most = (bytes, load.name);
+        }
+    }
+    most
+}
+
+pub fn text() -> String {
+    let mut text = String::from("| call | bytes of stack | on |\n|---|---:|---|\n");
+    for call in CALLS {
+        let (bytes, load) = most(call);
+        let over = if call != Call::Sheet && bytes > 65_536 {
+            " *"
+        } else {
+            ""
+        };
+        let _ = writeln!(
+            text,
+            "| {} | {}{over} | {load} |",
+            call.name(),
+            crate::report::grouped(bytes as f64)
+        );
+    }
+    text
+}
