@@ -2,7 +2,7 @@
 ghost use mathlib.Core.Path.{_≡_};
 ghost use Prim.Native.Nat.{_<_};
 ghost use lib.IntN.{ℤ, pos, natAbs, _+ℤ_};
-ghost use lib.ListN.{getD};
+ghost use lib.ListN.{getD, length};
 ghost use Rattle.integers.specs.Rounding.{floorZ};
 ghost use Rattle.nodes.specs.Table.{natOf, slotAt};
 ghost use Rattle.amounts.specs.Fine.{Divides, MonthIn, Reading};
@@ -20,6 +20,18 @@ pub fn number(nodes: &[i64; 2560], at: usize) -> Pence
     Pence(nodes::slot(nodes, at, 1))
 }
 
+// The value at a place of the table.
+pub fn value_at(values: &[i64], i: usize) -> Pence
+    requires { ⌜ i < length (now values) ⌝ }
+    ensures { λ r. ⌜ r .0 ≡ getD (now (values .entry)) i (pos 0) ⌝ }
+{
+    let found = lookup::lookup(values, Place::At(i));
+    let Found::Value(value) = found else {
+        return Pence(0);
+    };
+    value
+}
+
 // The value of an `O`: its row has the place for month 0.
 pub fn reading(nodes: &[i64; 2560], values: &[i64], month: Month, at: usize) -> Pence
     requires { ⌜ (at < 512) × MonthIn (month .0) × Reading (now values) (natOf (month .0)) (slotAt (now nodes) at 2) ⌝ }
@@ -27,11 +39,7 @@ pub fn reading(nodes: &[i64; 2560], values: &[i64], month: Month, at: usize) -> 
 {
     let place = nodes::slot(nodes, at, 2);
     let i = (month.0 + place) as usize;
-    let found = lookup::lookup(values, Place::At(i));
-    let Found::Value(value) = found else {
-        return Pence(0);
-    };
-    value
+    value_at(values, i)
 }
 
 // An amount divided by the number of a `Q`.

@@ -11,7 +11,7 @@ use mathlib.Core.Path.{_∙_, _≡_, ap, refl, subst, sym}
 use native.Mathlib.Nat.{mul-le-mul, mul-le-mul-right}
 use native.Mathlib.Omega.{arith}
 use Rattle.integers.proofs.Laws.{natAbs-parts}
-use Rattle.integers.proofs.Solver.{_⊕_, dn, lit, sound, up, var, ⊝}
+use Rattle.integers.proofs.Solver.{_⊕_, dn, lit, ring, sound, up, var, ⊝}
 use Rattle.integers.proofs.Tests.{le-false, le-true, lt-false, lt-true}
 use Rattle.language.proofs.Truth.{and-e}
 use Rattle.language.specs.Answer.{got, refused}
@@ -96,6 +96,34 @@ module _ (h f : ℤ) (bounds : List ℤ) (k : KeptSpan h f) (label : ℕ) (m : �
         pub stands : (i : ℕ) → i ≡ label * count + natAbs p → At i ≡ place
         unfolding placeOf
         stands i g = let r = covers (inside (natAbs h) (natAbs f) m (rw shifted at c) (rw shifted at d)) in rw r (ap At (g ∙ ap (λ z. label * count + natAbs z) e))
+
+not-below : (n : ℕ) → ltZ (pos n) (pos 0) ≡ false
+not-below n = go (ltZ (pos n) (pos 0)) refl
+  where
+    go : (b : Bool) → ltZ (pos n) (pos 0) ≡ b → b ≡ false
+    go false e = refl
+    go true e = absurd (omega (arith, lt-true (pos n) (pos 0) e))
+
+pub nowhere-at : (i : ℕ) → Nowhere ≡ At i → ⊥
+nowhere-at i e = let z : _≡_ {A = ℕ} 0 1 = cc in omega arith
+
+pub at-injective : {i j : ℕ} → At j ≡ At i → i ≡ j
+at-injective e = cc
+
+-- ---- four months in a row: k months after a month whose distance from -h is p
+
+module _ (h f : ℤ) (bounds : List ℤ) (s : KeptSpan h f) (label : ℕ) (m : ℤ) (l : label < length bounds) (p : ℤ) (e : p ≡ m +ℤ h) (c : ltZ p (pos 0) ≡ false) where
+  further : (k : ℕ) → p +ℤ pos k ≡ (m +ℤ pos k) +ℤ h
+  further k = ap (λ z. z +ℤ pos k) e ∙ ring ((var m ⊕ var h) ⊕ lit k) ((var m ⊕ lit k) ⊕ var h) (omega arith)
+
+  onward : (k : ℕ) → p +ℤ pos k ≡ pos (natAbs p + k)
+  onward k = ap (λ z. z +ℤ pos k) (natural p (from-zero h f bounds s label m l p e c))
+
+  pub stands-on : (n : ℕ) → n ≡ natAbs h + natAbs f + 1 → natAbs p + 3 < n → (i : ℕ) → i ≡ label * n + natAbs p → (k : ℕ) → k < 4 → At (i + k) ≡ placeOf h f bounds label (m +ℤ pos k)
+  stands-on n en d i ei k b =
+      let q : natAbs (p +ℤ pos k) ≡ natAbs p + k = ap natAbs (onward k) in
+      let z : ltZ (p +ℤ pos k) (pos 0) ≡ false = rw (onward k) (not-below (natAbs p + k)) in
+      stands h f bounds s label (m +ℤ pos k) l (p +ℤ pos k) (further k) z (omega (arith, q, en)) (i + k) (omega (arith, q, ei, ap (λ x. label * x) en))
 
 -- ---- what stands at the place of a label and a month
 

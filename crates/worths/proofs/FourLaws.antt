@@ -1,25 +1,30 @@
 -- Four months in a row: what is made of answers without a refusal.
 use Prim.Native.Nat.{_+_, _<_, ℕ}
 use lib.IntN.{_+ℤ_, pos, ℤ}
+use lib.ListN.{length}
 use mathlib.Core.Bool.{false, true}
 use mathlib.Core.List.{List}
-use mathlib.Core.Path.{_∙_, _≡_, ap, refl, sym}
+use mathlib.Core.Path.{_∙_, _≡_, ap, ap₂, refl, subst, sym}
 use native.Mathlib.Omega.{arith}
-use Rattle.amounts.proofs.Waiting.{Later, later-is}
-use Rattle.integers.specs.Bounded.{Small, amountWithin}
+use Rattle.amounts.proofs.RowReads.{month-is}
+use Rattle.integers.proofs.Solver.{_⊕_, lit, ring, var}
+use Rattle.integers.specs.Bounded.{amountWithin}
 use Rattle.integers.specs.declared.Bounded.{Bounded}
 use Rattle.language.specs.Answer.{Answer, got, onBoth}
 use Rattle.language.specs.Limits.{maxAmount}
 use Rattle.language.specs.Payoff.Evaluate.{inRange}
 use Rattle.language.specs.Text.Trees.{Amount}
-use Rattle.nodes.proofs.Signed.{natOf-known}
 use Rattle.nodes.specs.Table.{natOf}
+use Rattle.tables.proofs.Lookups.{place-inside, place-standing}
+use Rattle.tables.specs.Lookup.{Inside, lookedUp, placeOf, readTable, standing}
+use Rattle.tables.specs.declared.lookup.Place.the-variants.{At}
 use Rattle.worths.proofs.Bounds.{valued-small}
 use Rattle.worths.proofs.Combined.{amount-within, both-got}
+use Rattle.worths.proofs.RowAnswers.{read-is}
 use Rattle.worths.specs.Answers.{amountAnswer}
 use Rattle.worths.specs.Checked.{valueIn}
-use Rattle.worths.specs.FourMonths.{SmallFour, SureFour, amountIn}
-use Rattle.worths.specs.Ranges.{FourWaited, Waited}
+use Rattle.worths.specs.FourMonths.{SmallFour, SureFour, amountIn, readingIn}
+use Rattle.worths.specs.Ranges.{FourWaited, Near, Readable, Waited}
 use Rattle.worths.specs.declared.answers.Valued.the-variants as valued
 use Rattle.worths.specs.declared.four.FourValues.{FourValues}
 
@@ -38,18 +43,22 @@ never e = let z : _≡_ {A = ℕ} 0 1 = cc in omega arith
 pub sure-small : (h f : ℤ) (bounds values : List ℤ) (a : Amount ℤ) (w : ℕ) (x : FourValues) → SureFour x (λ k. valueIn h f bounds values a (w + k)) → SmallFour x
 sure-small h f bounds values a w x s = λ e k l. valued-small h f bounds values a (w + k) (valued.Value (record { 0 = amountIn x k })) (s e k l)
 
--- ---- the four months
+-- ---- an `O` in four months, w the months waited, i its month
 
-pub four-small : (w : ℤ) → FourWaited w → Small w
-four-small w h = record { small = omega (arith, natOf-known w (h .known), h .within) }
+pub first-waited : {w : ℤ} → FourWaited w → Waited w
+first-waited h = record { known = h .known; within = omega (arith, h .within) }
 
--- z is the month k months after w
-module _ (w : ℤ) (h : FourWaited w) (k : ℕ) (l : k < 4) (z : ℤ) (e : z ≡ w +ℤ pos k) where
-  after : Later w (pos k) z
-  after = later-is w (pos k) z (h .known) tt e
+-- the code's label k and month m; j is the first of four places
+module _ (h f : ℤ) (bounds values : List ℤ) (R : Readable h f bounds values) (w i : ℤ) (hw : FourWaited w) (hi : Near i)
+    {k l : ℕ} (ek : k ≡ l) {m x : ℤ} (em : m ≡ w +ℤ x) (ex : x ≡ i) (j : ℕ) (at : (n : ℕ) → n < 4 → At (j + n) ≡ placeOf h f bounds k (m +ℤ pos n)) where
+  pub four-inside : j + 3 < length values
+  unfolding Inside
+  four-inside = subst (Inside (length values)) (sym (at 3 (omega arith))) (place-inside h f bounds values (R .kept) k (m +ℤ pos 3))
 
-  pub four-is : natOf z ≡ natOf w + k
-  four-is = after .is
+  months : (n : ℕ) → m +ℤ pos n ≡ pos (natOf w + n) +ℤ i
+  months n = ap (λ z. z +ℤ pos n) (em ∙ ap₂ _+ℤ_ (month-is w (hw .known)) ex) ∙ ring ((lit (natOf w) ⊕ var i) ⊕ lit n) (lit (natOf w + n) ⊕ var i) (omega arith)
 
-  pub four-waited : Waited z
-  four-waited = record { known = after .known; within = omega (arith, after .is, h .within) }
+  pub four-read : (n : ℕ) → n < 4 → standing values (At (j + n)) ≡ readingIn h f bounds values l (pos (natOf w + n) +ℤ i)
+  four-read n b =
+      ap (standing values) (at n b) ∙ place-standing h f bounds values (R .kept) k (m +ℤ pos n) ∙ ap₂ (lookedUp (readTable h f bounds values)) ek (months n)
+      ∙ read-is h f bounds values R w i (first-waited hw) hi l (pos (natOf w + n) +ℤ i)

@@ -69,7 +69,7 @@ module _ (h f : ℤ) (bounds values : List ℤ) (R : Readable h f bounds values)
   pub read-small : {m x : ℤ} → m ≡ w +ℤ x → x ≡ i → Small m
   read-small {m} {x} em ex = record { small = rw (em, ex) (omega (arith, natAbs-add w i, natOf-known w (hw .known), hw .within, hi .near)) }
 
-  read-is : (l : ℕ) (m : ℤ) → lookedUp t l m ≡ cond (readable t l m) (inRange maxAmount (valueAt t l m)) (refused 11)
+  pub read-is : (l : ℕ) (m : ℤ) → lookedUp t l m ≡ cond (readable t l m) (inRange maxAmount (valueAt t l m)) (refused 11)
   unfolding lookedUp
   read-is l m = ap (λ a. cond (readable t l m) a (refused 11)) (sym (in-range maxAmount (valueAt t l m) (R .small l m)))
 

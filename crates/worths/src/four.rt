@@ -3,6 +3,7 @@ ghost use mathlib.Core.Path.{_≡_};
 ghost use mathlib.Core.Bool.{_&&_, _||_, true};
 ghost use Prim.Native.Nat.{ℕ, _+_, _<_, _≤_};
 ghost use lib.IntN.{_*ℤ_, _+ℤ_, _-ℤ_, natAbs, pos};
+ghost use lib.ListN.{length};
 ghost use lib.Signed.{ltZ};
 ghost use Rattle.amounts.specs.Fine.{Divides};
 ghost use Rattle.amounts.specs.FourMonths.{heldIn};
@@ -11,6 +12,8 @@ ghost use Rattle.language.specs.Answer.{got};
 ghost use Rattle.language.specs.Limits.{maxAmount};
 ghost use Rattle.language.specs.Payoff.Evaluate.{inRange};
 ghost use Rattle.nodes.specs.Table.{natOf, slotAt};
+ghost use Rattle.tables.specs.Lookup.{standing};
+ghost use Rattle.tables.specs.declared.lookup.Place.the-variants.{At};
 ghost use Rattle.worths.specs.Answers.{dividedBy, notAnswer, valuedAnswer};
 ghost use Rattle.worths.specs.FourMonths.{Chosen, From, FromTest, FromTests, FromTwo, SmallFour, SureFour, oneOf, readingIn};
 ghost use Rattle.worths.specs.Ranges.{FourWaited, Near, Readable};
@@ -24,6 +27,8 @@ use amounts::four_rows;
 use integers::Month;
 use integers::Pence;
 use tables::Span;
+use tables::lookup;
+use tables::lookup::Place;
 
 // An amount in four months; what `four` holds counts only where `all` came without a refusal.
 pub struct FourValues {
@@ -84,6 +89,23 @@ pub fn number(nodes: &[i64; 2560], at: usize) -> FourValues
     }
 }
 
+// The values at a place and the three behind it.
+fn values_at(values: &[i64], i: usize) -> FourValues
+    requires { ⌜ i + 3 < length (now values) ⌝ }
+    ensures { λ r. ⌜ SureFour r (λ k. standing (now (values .entry)) (At (i + k))) ⌝ }
+{
+    FourValues {
+        all: true,
+        four: Four {
+            a: amounts::rows::value_at(values, i),
+            b: amounts::rows::value_at(values, i + 1),
+            c: amounts::rows::value_at(values, i + 2),
+            d: amounts::rows::value_at(values, i + 3),
+        },
+    }
+}
+
+// The value of an `O`: sure where all four months are in the table.
 pub fn reading(
     nodes: &[i64; 2560],
     values: &[i64],
@@ -95,40 +117,12 @@ pub fn reading(
     requires { ⌜ (at < 512) × Readable (span .h) (span .f) (now bounds) (now values) × FourWaited (waited .0) × Near (slotAt (now nodes) at 2) ⌝ }
     ensures { λ r. ⌜ SureFour r (λ k. readingIn (span .h) (span .f) (now (bounds .entry)) (now (values .entry)) (natOf (slotAt (now (nodes .entry)) at 1)) (pos (natOf (waited .0) + k) +ℤ slotAt (now (nodes .entry)) at 2)) ⌝ }
 {
-    gathered(
-        rows::reading(
-            nodes,
-            values,
-            bounds,
-            span,
-            integers::later(waited, Month(0)),
-            at,
-        ),
-        rows::reading(
-            nodes,
-            values,
-            bounds,
-            span,
-            integers::later(waited, Month(1)),
-            at,
-        ),
-        rows::reading(
-            nodes,
-            values,
-            bounds,
-            span,
-            integers::later(waited, Month(2)),
-            at,
-        ),
-        rows::reading(
-            nodes,
-            values,
-            bounds,
-            span,
-            integers::later(waited, Month(3)),
-            at,
-        ),
-    )
+    let first = integers::later(waited, rows::month_at(nodes, at, 2));
+    let place = lookup::four_places(bounds, span, rows::label(nodes, at), first);
+    match place {
+        Place::At(i) => values_at(values, i),
+        Place::Nowhere => unsure(),
+    }
 }
 
 pub fn over(nodes: &[i64; 2560], at: usize, x: FourValues) -> FourValues

@@ -2,10 +2,9 @@ use borrow.Author.Needs.{needs}
 use mathlib.Core.Path.{_∙_}
 use mir.Syntax.{w64}
 use mir.Val.{SFits}
-use Rattle.amounts.proofs.RowReads.{found-is, never-outside, place-cast, place-fits, place-gives, place-inside}
+use Rattle.amounts.proofs.RowReads.{place-cast, place-fits, place-gives, place-inside}
 use Rattle.amounts.proofs.rows.reading.Statement.{statement}
 use Rattle.amounts.proofs.rows.reading.Tie as tie
-use Rattle.tables.specs.Lookup.{Inside}
 
 slot-requires : tie.Need-slot-requires
 slot-requires c κs = search needs
@@ -24,29 +23,19 @@ cast-i c =
     let fx : SFits w64 (c .before .before .slot .result) = search needs in
     place-cast _ _ _ _ fm fx (c .before .before .slot .ensures) (s .pre .1) (s .pre .2)
 
-lookup-requires : tie.Need-lookup-requires
-unfolding Inside
-lookup-requires c κs =
+value-at-requires : tie.Need-value-at-requires
+value-at-requires c κs =
     let s = c .before .before .before in
     let fm : SFits w64 (s .args .month .0) = search needs in
     let fx : SFits w64 (c .before .before .slot .result) = search needs in
     place-inside _ _ _ _ fm fx (c .before .before .slot .ensures) (s .pre .1) (s .pre .2)
 
-enum-known-found : tie.Need-enum-known-found
-enum-known-found c = search needs
-
-enum-told : tie.Need-enum-told
-enum-told c = search needs
-
 returns : tie.Need-returns
-returns c = absurd (never-outside _ _ _ (c .before .before .lookup .ensures) (c .enum-told .given .1))
-
-returns-2 : tie.Need-returns-2
-returns-2 c =
-    let s = c .before .before .before .before .before .before .before in
+returns c =
+    let s = c .before .before .before .before in
     let fm : SFits w64 (s .args .month .0) = search needs in
-    let fx : SFits w64 (c .before .before .before .before .before .before .slot .result) = search needs in
-    found-is _ _ _ (c .before .before .before .lookup .ensures) _ (c .before .found .given .1) ∙ place-gives _ _ _ _ fm fx (c .before .before .before .before .before .before .slot .ensures) (s .pre .1) (s .pre .2)
+    let fx : SFits w64 (c .before .before .before .slot .result) = search needs in
+    c .value-at .ensures ∙ place-gives _ _ _ _ fm fx (c .before .before .before .slot .ensures) (s .pre .1) (s .pre .2)
 
 pub reading-spec : {M : Type 1} → statement M
-reading-spec = tie.close (tie.spec slot-requires add-i cast-i lookup-requires enum-known-found enum-told returns returns-2)
+reading-spec = tie.close (tie.spec slot-requires add-i cast-i value-at-requires returns)
