@@ -2,7 +2,7 @@
 ghost use mathlib.Core.Path.{_≡_};
 ghost use Prim.Native.Nat.{_+_, _<_, _≤_};
 ghost use lib.ListN.{length};
-ghost use Rattle.printing.specs.Lines.{answerCall, headText, monthText, monthsText, refusalCall, refusalText};
+ghost use Rattle.printing.specs.Lines.{answerCall, answerText, headText, monthText, monthsText, refusalCall, refusalText};
 ghost use Rattle.writer.specs.Answers.{writtenAnswer};
 ghost use Rattle.writer.specs.Put.{Put};
 use writer::Written;
@@ -96,6 +96,15 @@ fn head_length(head: &[i64]) -> usize
     a + b + 11
 }
 
+// Writes the lines of an accepted sheet.
+fn put_answer(head: &[i64], column: &[i64], rest: &[i64], months: usize, out: &mut [u8]) -> usize
+    requires { ⌜ (2 ≤ length (now head)) × (months ≤ length (now column)) × (months ≤ length (now rest)) × (months ≤ 601) × (length (answerText (now head) (now column) (now rest) months) ≤ length (now out)) ⌝ }
+    ensures { λ r. ⌜ Put (now (out .entry)) (now (out .exit)) 0 r (answerText (now (head .entry)) (now (column .entry)) (now (rest .entry)) months) ⌝ }
+{
+    let at = put_head(head, out);
+    put_months(column, rest, months, out, at)
+}
+
 // The lines of an accepted sheet into `out`, or no byte of them where they do not fit.
 pub fn write_answer(
     head: &[i64],
@@ -108,13 +117,17 @@ pub fn write_answer(
     ensures { λ r. ⌜ (now (out .exit) ≡ answerCall (now (head .entry)) (now (column .entry)) (now (rest .entry)) months (now (out .entry)) .buffer)
         × (writtenAnswer r ≡ answerCall (now (head .entry)) (now (column .entry)) (now (rest .entry)) months (now (out .entry)) .answer) ⌝ }
 {
+    // where the longest lines fit, nothing is counted
+    if 60 + 70 * months <= out.len() {
+        let end = put_answer(head, column, rest, months, out);
+        return Written::Bytes(end);
+    }
     let first = head_length(head);
     let need = first + months_length(column, rest, months);
     if out.len() < need {
         Written::NoRoom
     } else {
-        let at = put_head(head, out);
-        let end = put_months(column, rest, months, out, at);
+        let end = put_answer(head, column, rest, months, out);
         Written::Bytes(end)
     }
 }

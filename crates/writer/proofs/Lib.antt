@@ -2,7 +2,6 @@
 
 pub mod Built
 pub mod Decimal
-pub mod DigitRuns
 pub mod FieldTexts
 pub mod Letters
 pub mod Numbers
@@ -11,6 +10,7 @@ pub mod Plans
 pub mod Puts
 pub mod RowTexts
 pub mod SettingTexts
+pub mod Splits
 pub mod Tables
 pub mod Texts
 pub mod Values

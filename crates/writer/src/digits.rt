@@ -4,6 +4,7 @@ ghost use Prim.Native.Nat.{_+_, _<_, _^_, _≤_};
 ghost use lib.IntN.{natAbs};
 ghost use lib.ListN.{length};
 ghost use Rattle.language.specs.Text.Number.{printNat, printNumber};
+ghost use Rattle.writer.specs.Digits.{eight, four, two};
 ghost use Rattle.writer.specs.Put.{Put};
 ghost use Rattle.writer.specs.Written.{slot};
 
@@ -30,21 +31,94 @@ pub fn digit_count(n: u64) -> usize
     count
 }
 
-// Writes the digits of n, the last one first, and answers the place behind them.
+// ---- so many digits, zeros in front among them
+
+fn put_two(n: u32, out: &mut [u8], at: usize) -> usize
+    requires { ⌜ (n < 100) × (at + 2 ≤ length (now out)) ⌝ }
+    ensures { λ r. ⌜ Put (now (out .entry)) (now (out .exit)) at r (two n) ⌝ }
+{
+    out[at] = 48 + (n / 10) as u8;
+    out[at + 1] = 48 + (n % 10) as u8;
+    at + 2
+}
+
+fn put_four(n: u32, out: &mut [u8], at: usize) -> usize
+    requires { ⌜ (n < 10_000) × (at + 4 ≤ length (now out)) ⌝ }
+    ensures { λ r. ⌜ Put (now (out .entry)) (now (out .exit)) at r (four n) ⌝ }
+{
+    let next = put_two(n / 100, out, at);
+    put_two(n % 100, out, next)
+}
+
+fn put_eight(n: u32, out: &mut [u8], at: usize) -> usize
+    requires { ⌜ (n < 100_000_000) × (at + 8 ≤ length (now out)) ⌝ }
+    ensures { λ r. ⌜ Put (now (out .entry)) (now (out .exit)) at r (eight n) ⌝ }
+{
+    let next = put_four(n / 10_000, out, at);
+    put_four(n % 10_000, out, next)
+}
+
+// ---- the digits of n: of a number too long for one function, what stands in front, then the rest
+
+fn put_to_two(n: u32, out: &mut [u8], at: usize) -> usize
+    requires { ⌜ (n < 100) × (at + length (printNat n) ≤ length (now out)) ⌝ }
+    ensures { λ r. ⌜ Put (now (out .entry)) (now (out .exit)) at r (printNat n) ⌝ }
+{
+    if n < 10 {
+        out[at] = 48 + n as u8;
+        at + 1
+    } else {
+        put_two(n, out, at)
+    }
+}
+
+fn put_to_four(n: u32, out: &mut [u8], at: usize) -> usize
+    requires { ⌜ (n < 10_000) × (at + length (printNat n) ≤ length (now out)) ⌝ }
+    ensures { λ r. ⌜ Put (now (out .entry)) (now (out .exit)) at r (printNat n) ⌝ }
+{
+    if n < 100 {
+        put_to_two(n, out, at)
+    } else {
+        let next = put_to_two(n / 100, out, at);
+        put_two(n % 100, out, next)
+    }
+}
+
+fn put_to_eight(n: u32, out: &mut [u8], at: usize) -> usize
+    requires { ⌜ (n < 100_000_000) × (at + length (printNat n) ≤ length (now out)) ⌝ }
+    ensures { λ r. ⌜ Put (now (out .entry)) (now (out .exit)) at r (printNat n) ⌝ }
+{
+    if n < 10_000 {
+        put_to_four(n, out, at)
+    } else {
+        let next = put_to_four(n / 10_000, out, at);
+        put_four(n % 10_000, out, next)
+    }
+}
+
+fn put_to_sixteen(n: u64, out: &mut [u8], at: usize) -> usize
+    requires { ⌜ (n < 10_000_000_000_000_000) × (at + length (printNat n) ≤ length (now out)) ⌝ }
+    ensures { λ r. ⌜ Put (now (out .entry)) (now (out .exit)) at r (printNat n) ⌝ }
+{
+    if n < 100_000_000 {
+        put_to_eight(n as u32, out, at)
+    } else {
+        let next = put_to_eight((n / 100_000_000) as u32, out, at);
+        put_eight((n % 100_000_000) as u32, out, next)
+    }
+}
+
+// Writes the digits of n, and answers the place behind them.
 pub fn put_digits(n: u64, out: &mut [u8], at: usize) -> usize
     requires { ⌜ (n ≤ 2 ^ 63) × (at + length (printNat n) ≤ length (now out)) ⌝ }
     ensures { λ r. ⌜ Put (now (out .entry)) (now (out .exit)) at r (printNat n) ⌝ }
 {
-    let end = at + digit_count(n);
-    let mut left = n;
-    let mut k = end - 1;
-    while 10 <= left {
-        out[k] = 48 + (left % 10) as u8;
-        left = left / 10;
-        k -= 1;
+    if n < 10_000_000_000_000_000 {
+        put_to_sixteen(n, out, at)
+    } else {
+        let next = put_to_sixteen(n / 100_000_000, out, at);
+        put_eight((n % 100_000_000) as u32, out, next)
     }
-    out[k] = 48 + left as u8;
-    end
 }
 
 // The bytes of the number at k.
