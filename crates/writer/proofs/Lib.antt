@@ -5,6 +5,7 @@ pub mod Decimal
 pub mod FieldTexts
 pub mod Letters
 pub mod Numbers
+pub mod Pairs
 pub mod Payoffs
 pub mod Plans
 pub mod Puts

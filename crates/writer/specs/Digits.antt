@@ -1,5 +1,5 @@
 -- Rows of so many digits, zeros in front among them.
-use Prim.Native.Nat.{_%_, _+_, _/_, ℕ}
+use Prim.Native.Nat.{_%_, _+_, _/_, suc, zero, ℕ}
 use mathlib.Core.List.{List, [], _++_, _∷_}
 use Rattle.language.specs.Text.Number.{byte}
 
@@ -18,3 +18,12 @@ four = halves 100 two
 
 abbrev pub eight : ℕ → List ℕ
 eight = halves 10_000 four
+
+-- the digits of n numbers from i on, two for each
+abbrev pub pairsFrom : ℕ → ℕ → List ℕ
+pairsFrom i zero = []
+pairsFrom i (suc n) = (byte "0" + i / 10) ∷ (byte "0" + i % 10) ∷ pairsFrom (suc i) n
+
+-- of 0 to 99: the table that numbers are written from
+unfoldable pub allPairs : List ℕ
+allPairs = pairsFrom 0 100

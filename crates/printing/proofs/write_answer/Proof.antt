@@ -15,14 +15,18 @@ add-if1 : tie.Need-add-if1
 add-if1 c = search needs
 
 put-answer-requires : tie.Need-put-answer-requires
-put-answer-requires c κs = let s = c .before .before .before in (s .pre .0, s .pre .1, s .pre .2, s .pre .3, surely-fits _ _ _ _ _ (c .before .if1 .taken))
+put-answer-requires c κs =
+    let s = c .before .before .before in
+    (s .pre .0, s .pre .1, s .pre .2, s .pre .3, surely-fits _ _ _ _ _ (c .before .if1 .taken))
 
 same-length : tie.Need-same-length
 same-length c = search needs
 
 returns : tie.Need-returns
 unfolding answerCall
-returns c = let s = c .before .before .before .before .before .before in whole _ _ _ refl (surely-fits _ _ _ _ _ (c .before .before .before .before .if1 .taken)) _ _ (c .before .before .put-answer .ensures)
+returns c =
+    let s = c .before .before .before .before .before .before in
+    whole _ _ _ refl (surely-fits _ _ _ _ _ (c .before .before .before .before .if1 .taken)) _ _ (c .before .before .put-answer .ensures)
 
 head-length-requires : tie.Need-head-length-requires
 head-length-requires c κs = c .before .before .pre .0
@@ -34,7 +38,9 @@ add-need : tie.Need-add-need
 add-need c = record { fits = omega (arith, c .before .head-length .ensures .1, c .months-length .ensures .1) }
 
 put-answer-requires-2 : tie.Need-put-answer-requires-2
-put-answer-requires-2 c κs = let s = c .before .before .before .before .before .before in (s .pre .0, s .pre .1, s .pre .2, s .pre .3, omega (arith, (all-counted _ _ _ _ (c .before .before .before .head-length .ensures .0) (c .before .before .months-length .ensures .0)), c .before .if2 .left))
+put-answer-requires-2 c κs =
+    let s = c .before .before .before .before .before .before in
+    (s .pre .0, s .pre .1, s .pre .2, s .pre .3, omega (arith, (all-counted _ _ _ _ (c .before .before .before .head-length .ensures .0) (c .before .before .months-length .ensures .0)), c .before .if2 .left))
 
 returns-2 : tie.Need-returns-2
 unfolding answerCall

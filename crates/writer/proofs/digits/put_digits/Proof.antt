@@ -1,21 +1,19 @@
 -- `digits::put_digits` meets its contract.
 use borrow.Author.Needs.{needs}
-use native.Mathlib.Omega.{arith}
-use Rattle.writer.proofs.Splits.{at-eight, front-room, parted, row-room}
+use mathlib.Core.Path.{refl}
 use Rattle.writer.proofs.digits.put_digits.Statement.{statement}
 use Rattle.writer.proofs.digits.put_digits.Tie as tie
+use Rattle.writer.specs.Digits.{allPairs}
 
-put-to-sixteen-requires : tie.Need-put-to-sixteen-requires
-put-to-sixteen-requires c κs = search needs
+cast-put-to-two : tie.Need-cast-put-to-two
+cast-put-to-two c = search needs
 
-put-to-sixteen-requires-2 : tie.Need-put-to-sixteen-requires-2
-put-to-sixteen-requires-2 c κs = (omega (arith, c .before .before .before .pre .0), front-room at-eight _ (omega (arith, c .before .if1 .left)) (c .before .before .before .pre .0) _ _ (c .before .before .before .pre .1))
+put-to-two-requires : tie.Need-put-to-two-requires
+put-to-two-requires c κs = search needs
 
-cast-put-eight : tie.Need-cast-put-eight
-cast-put-eight c = search needs
-
-put-eight-requires : tie.Need-put-eight-requires
-put-eight-requires c κs = (omega arith, row-room at-eight _ (omega (arith, c .before .before .before .before .before .if1 .left)) (c .before .before .before .before .before .before .before .pre .0) (c .before .before .before .before .before .before .before .pre .1) (c .before .before .before .put-to-sixteen2 .ensures))
+put-by-pairs-requires : tie.Need-put-by-pairs-requires
+unfolding allPairs
+put-by-pairs-requires c κs = (c .before .before .before .before .pre .0, c .before .before .before .before .pre .1, refl)
 
 same-length : tie.Need-same-length
 same-length c = search needs
@@ -27,16 +25,15 @@ same-length-2 : tie.Need-same-length-2
 same-length-2 c = search needs
 
 returns-2 : tie.Need-returns-2
-returns-2 c = parted at-eight _ (omega (arith, c .before .before .before .before .before .before .before .before .if1 .left)) (c .before .before .before .before .before .before .before .before .before .before .pre .0) (c .before .before .before .before .before .before .put-to-sixteen2 .ensures) (c .before .before .put-eight .ensures)
+returns-2 c = search needs
 
 pub put-digits-spec : {M : Type 1} → statement M
 put-digits-spec =
     tie.close
     (tie.spec
-    put-to-sixteen-requires
-    put-to-sixteen-requires-2
-    cast-put-eight
-    put-eight-requires
+    cast-put-to-two
+    put-to-two-requires
+    put-by-pairs-requires
     same-length
     returns
     same-length-2

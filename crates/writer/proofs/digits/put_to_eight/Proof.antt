@@ -9,10 +9,10 @@ put-to-four-requires : tie.Need-put-to-four-requires
 put-to-four-requires c κs = search needs
 
 put-to-four-requires-2 : tie.Need-put-to-four-requires-2
-put-to-four-requires-2 c κs = (omega (arith, c .before .before .before .pre .0), front-room at-four _ (c .before .if1 .left) (omega (arith, c .before .before .before .pre .0)) _ _ (c .before .before .before .pre .1))
+put-to-four-requires-2 c κs = (omega (arith, c .before .before .before .pre .0), front-room at-four _ (c .before .if1 .left) (omega (arith, c .before .before .before .pre .0)) _ _ (c .before .before .before .pre .1), c .before .before .before .pre .2)
 
 put-four-requires : tie.Need-put-four-requires
-put-four-requires c κs = (omega arith, row-room at-four _ (c .before .before .before .before .before .if1 .left) (omega (arith, c .before .before .before .before .before .before .before .pre .0)) (c .before .before .before .before .before .before .before .pre .1) (c .before .before .before .put-to-four2 .ensures))
+put-four-requires c κs = (omega arith, row-room at-four _ (c .before .before .before .before .before .if1 .left) (omega (arith, c .before .before .before .before .before .before .before .pre .0)) (c .before .before .before .before .before .before .before .pre .1) (c .before .before .before .put-to-four2 .ensures), c .before .before .before .before .before .before .before .pre .2)
 
 same-length : tie.Need-same-length
 same-length c = search needs

@@ -11,8 +11,8 @@ put-to-two-requires c κs = search needs
 put-to-two-requires-2 : tie.Need-put-to-two-requires-2
 put-to-two-requires-2 c κs = (omega (arith, c .before .before .before .pre .0), front-room at-two _ (c .before .if1 .left) (omega (arith, c .before .before .before .pre .0)) _ _ (c .before .before .before .pre .1))
 
-put-two-requires : tie.Need-put-two-requires
-put-two-requires c κs = (omega arith, row-room at-two _ (c .before .before .before .before .before .if1 .left) (omega (arith, c .before .before .before .before .before .before .before .pre .0)) (c .before .before .before .before .before .before .before .pre .1) (c .before .before .before .put-to-two2 .ensures))
+put-pair-requires : tie.Need-put-pair-requires
+put-pair-requires c κs = (omega arith, row-room at-two _ (c .before .before .before .before .before .if1 .left) (omega (arith, c .before .before .before .before .before .before .before .pre .0)) (c .before .before .before .before .before .before .before .pre .1) (c .before .before .before .put-to-two2 .ensures), c .before .before .before .before .before .before .before .pre .2)
 
 same-length : tie.Need-same-length
 same-length c = search needs
@@ -24,7 +24,7 @@ same-length-2 : tie.Need-same-length-2
 same-length-2 c = search needs
 
 returns-2 : tie.Need-returns-2
-returns-2 c = parted at-two _ (c .before .before .before .before .before .before .before .before .if1 .left) (omega (arith, c .before .before .before .before .before .before .before .before .before .before .pre .0)) (c .before .before .before .before .before .before .put-to-two2 .ensures) (c .before .before .put-two .ensures)
+returns-2 c = parted at-two _ (c .before .before .before .before .before .before .before .before .if1 .left) (omega (arith, c .before .before .before .before .before .before .before .before .before .before .pre .0)) (c .before .before .before .before .before .before .put-to-two2 .ensures) (c .before .before .put-pair .ensures)
 
 pub put-to-four-spec : {M : Type 1} → statement M
 put-to-four-spec =
@@ -32,7 +32,7 @@ put-to-four-spec =
     (tie.spec
     put-to-two-requires
     put-to-two-requires-2
-    put-two-requires
+    put-pair-requires
     same-length
     returns
     same-length-2

@@ -15,13 +15,13 @@ cast-put-to-eight-2 : tie.Need-cast-put-to-eight-2
 cast-put-to-eight-2 c = search needs
 
 put-to-eight-requires-2 : tie.Need-put-to-eight-requires-2
-put-to-eight-requires-2 c κs = (omega (arith, c .before .before .before .pre .0), front-room at-eight _ (c .before .if1 .left) (omega (arith, c .before .before .before .pre .0)) _ _ (c .before .before .before .pre .1))
+put-to-eight-requires-2 c κs = (omega (arith, c .before .before .before .pre .0), front-room at-eight _ (c .before .if1 .left) (omega (arith, c .before .before .before .pre .0)) _ _ (c .before .before .before .pre .1), c .before .before .before .pre .2)
 
 cast-put-eight : tie.Need-cast-put-eight
 cast-put-eight c = search needs
 
 put-eight-requires : tie.Need-put-eight-requires
-put-eight-requires c κs = (omega arith, row-room at-eight _ (c .before .before .before .before .before .if1 .left) (omega (arith, c .before .before .before .before .before .before .before .pre .0)) (c .before .before .before .before .before .before .before .pre .1) (c .before .before .before .put-to-eight2 .ensures))
+put-eight-requires c κs = (omega arith, row-room at-eight _ (c .before .before .before .before .before .if1 .left) (omega (arith, c .before .before .before .before .before .before .before .pre .0)) (c .before .before .before .before .before .before .before .pre .1) (c .before .before .before .put-to-eight2 .ensures), c .before .before .before .before .before .before .before .pre .2)
 
 same-length : tie.Need-same-length
 same-length c = search needs
