@@ -1,6 +1,6 @@
 -- A number's digits parted at a power of ten.
 use Prim.Native.Nat.{_%_, _*_, _+_, _/_, _<_, _^_, _≤_, ℕ}
-use lib.ListN.{length}
+use lib.ListN.{length, length-append}
 use mathlib.Core.List.{List, _++_, append-assoc}
 use mathlib.Core.Path.{_∙_, _≡_, ap, refl, sym}
 use native.Mathlib.Nat.{div-add-mod, div-div-eq-div-mul, div-le-self, div-lt-iff-lt-mul, le-div-iff-mul-le, mod-eq-of-lt, mod-lt, mul-add-div, mul-add-mod-self-left, mul-assoc, mul-le-mul-left, mul-pos}
@@ -76,3 +76,35 @@ module _ {w : ℕ} {row : ℕ → List ℕ} (s : Splits w row) (n : ℕ) (l : w 
 -- ---- one digit and two
 pub print-two : (n : ℕ) → 10 ≤ n → n < 100 → printNat n ≡ two n
 print-two n l h = print-more n l (omega arith) ∙ rw (print-few (n / 10) (omega arith)) refl
+
+-- ---- how many digits
+module _ (n : ℕ) where
+  pub one-digit : n < 10 → 1 ≡ length (printNat n)
+  one-digit h = sym (ap length (print-few n h))
+
+  pub two-digits : 10 ≤ n → n < 100 → 2 ≡ length (printNat n)
+  two-digits l h = sym (ap length (print-two n l h))
+
+  -- those in front, and two or four
+  pub two-more : 100 ≤ n → n ≤ 2 ^ 63 → length (printNat n) ≡ length (printNat (n / 100)) + 2
+  two-more l m = ap length (at-two .parts n l m) ∙ length-append (printNat (n / 100)) (two (n % 100))
+
+  pub four-more : 10_000 ≤ n → n ≤ 2 ^ 63 → length (printNat n) ≡ length (printNat (n / 10_000)) + 4
+  four-more l m = ap length (at-four .parts n l m) ∙ length-append (printNat (n / 10_000)) (four (n % 10_000))
+
+pub three-digits : (n : ℕ) → 100 ≤ n → n < 1000 → 3 ≡ length (printNat n)
+three-digits n l h = omega (arith, two-more n l (omega arith), one-digit (n / 100) (omega arith))
+
+pub four-digits : (n : ℕ) → 1000 ≤ n → n < 10_000 → 4 ≡ length (printNat n)
+four-digits n l h = omega (arith, two-more n (omega arith) (omega arith), two-digits (n / 100) (omega arith) (omega arith))
+
+-- `left` is in front of the digits counted so far
+pub record Counting (n behind left : ℕ) : Type 0 where
+  pub is : length (printNat n) ≡ behind + length (printNat left)
+  pub small : left ≤ 2 ^ 63
+
+pub counting-starts : (n : ℕ) → n ≤ 2 ^ 63 → Counting n 0 n
+counting-starts n h = record { is = omega arith; small = h }
+
+pub counting-on : (n behind left : ℕ) → Counting n behind left → 10_000 ≤ left → Counting n (behind + 4) (left / 10_000)
+counting-on n behind left c h = record { is = omega (arith, c .is, four-more left h (c .small)); small = omega (arith, c .small) }

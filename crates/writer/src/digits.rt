@@ -17,18 +17,30 @@ pub fn magnitude(nodes: &[i64], k: usize) -> u64
     if z < 0 { (-1 - z) as u64 + 1 } else { z as u64 }
 }
 
-// How many digits n has.
+// How many digits a number below 10,000 has.
+fn few_digits(n: u64) -> usize
+    requires { ⌜ n < 10_000 ⌝ }
+    ensures { λ r. ⌜ r ≡ length (printNat n) ⌝ }
+{
+    if n < 100 {
+        if n < 10 { 1 } else { 2 }
+    } else {
+        if n < 1000 { 3 } else { 4 }
+    }
+}
+
+// How many digits n has, four at a time.
 pub fn digit_count(n: u64) -> usize
     requires { ⌜ n ≤ 2 ^ 63 ⌝ }
     ensures { λ r. ⌜ r ≡ length (printNat n) ⌝ }
 {
-    let mut count: usize = 1;
-    let mut power: u64 = 10;
-    while power <= n {
-        power = power * 10;
-        count += 1;
+    let mut behind: usize = 0;
+    let mut left = n;
+    while 10_000 <= left {
+        left = left / 10_000;
+        behind += 4;
     }
-    count
+    behind + few_digits(left)
 }
 
 // ---- so many digits, zeros in front among them
