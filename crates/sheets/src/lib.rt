@@ -176,7 +176,7 @@ fn long_sheet(input: &[u8], out: &mut [u8]) -> Written
     }
 }
 
-// The same with less room to clear, for an input that is too short for more values.
+// The same with less room to clear; a sheet with more values than that is read again.
 fn short_sheet(input: &[u8], out: &mut [u8]) -> Written
     requires { ⌜ length (now input) ≤ 60_000 ⌝ }
     ensures { λ r. ⌜ (now (out .exit) ≡ sheetCall (now (input .entry)) (now (out .entry)) .buffer)
@@ -208,8 +208,8 @@ pub fn sheet(input: &[u8], out: &mut [u8]) -> Written
     if 60_000 < input.len() {
         return refuse(Refusal::TooLong, out);
     }
-    // a value takes two bytes
-    if input.len() <= 2048 {
+    // in so few bytes there are seldom more values than the smaller room holds
+    if input.len() <= 5120 {
         return short_sheet(input, out);
     }
     long_sheet(input, out)
