@@ -4,15 +4,16 @@ use borrow.Author.Tests.{eq-eqb, ne-eqb}
 use lib.Dec.{eqb}
 use lib.ListN.{drop, drop-of-length-le, getD, length, length-drop}
 use lib.Seq.{drop-drop}
-use mathlib.Core.Bool.{Bool, cond, false, true}
+use mathlib.Core.Bool.{Bool, _||_, cond, false, true, true≢false}
 use mathlib.Core.List.{List, [], _∷_}
 use mathlib.Core.Path.{_∙_, _≡_, ap, refl, sym}
+use native.Mathlib.Decide.{decLt}
 use native.Mathlib.Omega.{arith}
 use Rattle.language.proofs.Acceptance.{no-answer}
 use Rattle.language.specs.Answer.{Answer, _>>=_, _>>_, got, refused, require}
 use Rattle.language.specs.Sheet.{linesOf, sameBytes}
 use Rattle.language.specs.Text.Fields.{inFront, splitAt}
-use Rattle.lines.specs.Lines.{endsWell, lineOf, linesIn}
+use Rattle.lines.specs.Lines.{LineFrom, NoFeed, endsWell, lineOf, linesIn}
 use Rattle.text.proofs.Positions.{drop-at-index}
 
 -- ---- one line, by the next byte
@@ -28,6 +29,34 @@ module _ (text : List ℕ) (i : ℕ) where
   pub no-line : length text ≤ i → lineOf (drop i text) ≡ []
   unfolding lineOf
   no-line h = rw drop-of-length-le
+
+-- ---- bytes passed at a time
+module _ (text : List ℕ) where
+  pub line-here : (at : ℕ) → at ≤ length text → LineFrom text at at
+  line-here at h = record { inside = h; ends = refl }
+
+  none-passed : (at : ℕ) → length (lineOf (drop at text)) ≡ length (lineOf (drop (at + 0) text))
+  none-passed at = let e : at + 0 ≡ at = omega arith in rw e refl
+
+  without-feed : (at n : ℕ) → at + n ≤ length text → NoFeed text at n → length (lineOf (drop at text)) ≡ n + length (lineOf (drop (at + n) text))
+  without-feed at zero h f = omega (arith, none-passed at)
+  without-feed at (suc n) h f =
+      let e : at + suc n ≡ at + n + 1 = omega arith in
+      rw e (omega (arith, without-feed at n (omega arith) (λ k l. f k (omega arith)), ap length (line-goes-on text (at + n) (omega arith) (f n (omega arith)))))
+
+  pub line-on : {at i : ℕ} (n : ℕ) → i + n ≤ length text → LineFrom text at i → NoFeed text i n → LineFrom text at (i + n)
+  line-on {at} {i} n h l f = record { inside = h; ends = omega (arith, l .ends, without-feed i n h f) }
+
+  -- found so far, or not among the first k
+  pub or-none : (found : Bool) (at k : ℕ) → (found ≡ false → NoFeed text at k) → found || eqb (getD text (at + k) 0) 10 ≡ false → NoFeed text at (k + 1)
+  or-none true at k f e j l q = true≢false e
+  or-none false at k f e j l q = by (decLt j k)
+    where
+      by : Dec (j < k) → ⊥
+      by (yes h) = f refl j h q
+      by (no h) =
+          let s : j ≡ k = omega arith in
+          true≢false (sym (eq-eqb (getD text (at + k) 0) 10 (rw s at q)) ∙ e)
 
 -- ---- the lines
 first-line : (b : ℕ) (bs : List ℕ) → linesIn (b ∷ bs) ≡ lineOf (b ∷ bs) ∷ linesIn (drop (length (lineOf (b ∷ bs)) + 1) (b ∷ bs))

@@ -42,9 +42,20 @@ pub refusal-counted : (number : List ℤ) {a : ℕ} → a ≡ length (printNumbe
 unfolding refusalText bytes
 refusal-counted number {a} ea = omega (arith, ea, length-append (numberField (slot number 0)) newLine)
 
+months-most : (column rest : List ℤ) (m n : ℕ) → length (monthsText column rest m n) ≤ 70 * n
+unfolding monthsText
+months-most column rest m zero = omega arith
+months-most column rest m (suc n) =
+    omega (arith, length-append (monthText column rest m) (monthsText column rest (suc m) n), month-counted column rest m refl refl refl, months-most column rest (suc m) n)
+
 -- the whole answer
 pub all-counted : (head column rest : List ℤ) (months : ℕ) {a b : ℕ} → a ≡ length (headText head) → b ≡ length (monthsText column rest 0 months) → a + b ≡ length (headText head ++ monthsText column rest 0 months)
 all-counted head column rest months ea eb = omega (arith, ea, eb, length-append (headText head) (monthsText column rest 0 months))
+
+-- where the longest lines fit, these do
+pub surely-fits : (head column rest : List ℤ) (months room : ℕ) → 60 + 70 * months ≤ room → length (headText head ++ monthsText column rest 0 months) ≤ room
+surely-fits head column rest months room h =
+    omega (arith, length-append (headText head) (monthsText column rest 0 months), head-counted head refl refl, months-most column rest 0 months)
 
 pub short-number : (z : ℤ) {a : ℕ} → a ≡ length (printNumber z) → a ≤ 21
 short-number z {a} e = number-small z a e

@@ -30,8 +30,12 @@ headText head = bytes "accepted" ++ (numberField (slot head 0) ++ (numberField (
 unfoldable pub refusalText : List ℤ → List ℕ
 refusalText number = bytes "refused" ++ (numberField (slot number 0) ++ newLine)
 
+-- all lines of an accepted sheet
+abbrev pub answerText : List ℤ → List ℤ → List ℤ → ℕ → List ℕ
+answerText head column rest months = headText head ++ monthsText column rest 0 months
+
 unfoldable pub answerCall : List ℤ → List ℤ → List ℤ → ℕ → List ℕ → Outcome (Wrote Unit)
-answerCall head column rest months buffer = intoBuffer buffer (got (record { value = tt; text = headText head ++ monthsText column rest 0 months }))
+answerCall head column rest months buffer = intoBuffer buffer (got (record { value = tt; text = answerText head column rest months }))
 
 unfoldable pub refusalCall : List ℤ → List ℕ → Outcome (Wrote Unit)
 refusalCall number buffer = intoBuffer buffer (got (record { value = tt; text = refusalText number }))

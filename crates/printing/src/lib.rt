@@ -2,8 +2,9 @@
 ghost use mathlib.Core.Path.{_≡_};
 ghost use Prim.Native.Nat.{_+_, _<_, _≤_};
 ghost use lib.ListN.{length};
-ghost use Rattle.printing.specs.Lines.{answerCall, headText, monthText, monthsText, refusalCall, refusalText};
+ghost use Rattle.printing.specs.Lines.{answerCall, answerText, headText, monthText, monthsText, refusalCall, refusalText};
 ghost use Rattle.writer.specs.Answers.{writtenAnswer};
+ghost use Rattle.writer.specs.Digits.{allPairs};
 ghost use Rattle.writer.specs.Put.{Put};
 use writer::Written;
 use writer::digits;
@@ -35,13 +36,20 @@ fn month_length(column: &[i64], rest: &[i64], m: usize) -> usize
 }
 
 // Writes a month's line.
-fn put_month(column: &[i64], rest: &[i64], m: usize, out: &mut [u8], at: usize) -> usize
-    requires { ⌜ (m < length (now column)) × (m < length (now rest)) × (m ≤ 600) × (at + length (monthText (now column) (now rest) m) ≤ length (now out)) ⌝ }
+fn put_month(
+    pairs: &[u8; 200],
+    column: &[i64],
+    rest: &[i64],
+    m: usize,
+    out: &mut [u8],
+    at: usize,
+) -> usize
+    requires { ⌜ (m < length (now column)) × (m < length (now rest)) × (m ≤ 600) × (at + length (monthText (now column) (now rest) m) ≤ length (now out)) × (now pairs ≡ allPairs) ⌝ }
     ensures { λ r. ⌜ Put (now (out .entry)) (now (out .exit)) at r (monthText (now (column .entry)) (now (rest .entry)) m) ⌝ }
 {
-    let a = digits::put_digits(m as u64, out, at);
-    let b = fields::put_field(column, m, out, a);
-    let c = fields::put_field(rest, m, out, b);
+    let a = digits::put_to_four(pairs, m as u32, out, at);
+    let b = fields::put_field_by(pairs, column, m, out, a);
+    let c = fields::put_field_by(pairs, rest, m, out, b);
     out[c] = b'\n';
     c + 1
 }
@@ -61,14 +69,21 @@ fn months_length(column: &[i64], rest: &[i64], months: usize) -> usize
 }
 
 // Writes the lines of the first months.
-fn put_months(column: &[i64], rest: &[i64], months: usize, out: &mut [u8], at: usize) -> usize
-    requires { ⌜ (months ≤ length (now column)) × (months ≤ length (now rest)) × (months ≤ 601) × (at + length (monthsText (now column) (now rest) 0 months) ≤ length (now out)) ⌝ }
+fn put_months(
+    pairs: &[u8; 200],
+    column: &[i64],
+    rest: &[i64],
+    months: usize,
+    out: &mut [u8],
+    at: usize,
+) -> usize
+    requires { ⌜ (months ≤ length (now column)) × (months ≤ length (now rest)) × (months ≤ 601) × (at + length (monthsText (now column) (now rest) 0 months) ≤ length (now out)) × (now pairs ≡ allPairs) ⌝ }
     ensures { λ r. ⌜ Put (now (out .entry)) (now (out .exit)) at r (monthsText (now (column .entry)) (now (rest .entry)) 0 months) ⌝ }
 {
     let mut place = at;
     let mut m = 0;
     while m < months {
-        place = put_month(column, rest, m, out, place);
+        place = put_month(pairs, column, rest, m, out, place);
         m += 1;
     }
     place
@@ -96,6 +111,17 @@ fn head_length(head: &[i64]) -> usize
     a + b + 11
 }
 
+// Writes the lines of an accepted sheet.
+fn put_answer(head: &[i64], column: &[i64], rest: &[i64], months: usize, out: &mut [u8]) -> usize
+    requires { ⌜ (2 ≤ length (now head)) × (months ≤ length (now column)) × (months ≤ length (now rest)) × (months ≤ 601) × (length (answerText (now head) (now column) (now rest) months) ≤ length (now out)) ⌝ }
+    ensures { λ r. ⌜ Put (now (out .entry)) (now (out .exit)) 0 r (answerText (now (head .entry)) (now (column .entry)) (now (rest .entry)) months) ⌝ }
+{
+    let at = put_head(head, out);
+    let pairs =
+        b"00010203040506070809101112131415161718192021222324252627282930313233343536373839404142434445464748495051525354555657585960616263646566676869707172737475767778798081828384858687888990919293949596979899";
+    put_months(pairs, column, rest, months, out, at)
+}
+
 // The lines of an accepted sheet into `out`, or no byte of them where they do not fit.
 pub fn write_answer(
     head: &[i64],
@@ -108,13 +134,17 @@ pub fn write_answer(
     ensures { λ r. ⌜ (now (out .exit) ≡ answerCall (now (head .entry)) (now (column .entry)) (now (rest .entry)) months (now (out .entry)) .buffer)
         × (writtenAnswer r ≡ answerCall (now (head .entry)) (now (column .entry)) (now (rest .entry)) months (now (out .entry)) .answer) ⌝ }
 {
+    // where the longest lines fit, nothing is counted
+    if 60 + 70 * months <= out.len() {
+        let end = put_answer(head, column, rest, months, out);
+        return Written::Bytes(end);
+    }
     let first = head_length(head);
     let need = first + months_length(column, rest, months);
     if out.len() < need {
         Written::NoRoom
     } else {
-        let at = put_head(head, out);
-        let end = put_months(column, rest, months, out, at);
+        let end = put_answer(head, column, rest, months, out);
         Written::Bytes(end)
     }
 }

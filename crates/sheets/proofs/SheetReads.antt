@@ -154,7 +154,7 @@ module _ {input : List ℕ} {days factors bounds values : List ℤ} {sheet : She
     part-bounds = omega (arith, fit .1, s .labels)
 
     pub part-values : sheet .values ≤ length values
-    part-values = omega (arith, fit .2, s .places)
+    part-values = s .places (fit .2)
 
     table-is : tableOf (sheet .h) (sheet .f) (take (sheet .factors - 0) (drop 0 factors)) (take (sheet .labels - 0) (drop 0 bounds)) (take (sheet .values - 0) (drop 0 values)) ≡ T
     table-is =

@@ -14,4 +14,4 @@ pub record SheetHeld (input : List ℕ) (days factors bounds values : List ℤ) 
   pub settings : length days ≡ 9
   pub months : length factors ≡ 601
   pub labels : length bounds ≡ 8
-  pub places : length values ≡ 5288
+  pub places : sheet .values ≤ 5288 → sheet .values ≤ length values

@@ -159,14 +159,12 @@ fn answer_read(
     }
 }
 
-// The lines of a sheet's answer, or its one line `refused,` with the number, from the first byte of `out` on.
-pub fn sheet(input: &[u8], out: &mut [u8]) -> Written
+// A sheet that is not too long, with room for the values of every table that keeps the rules.
+fn long_sheet(input: &[u8], out: &mut [u8]) -> Written
+    requires { ⌜ length (now input) ≤ 60_000 ⌝ }
     ensures { λ r. ⌜ (now (out .exit) ≡ sheetCall (now (input .entry)) (now (out .entry)) .buffer)
         × (writtenAnswer r ≡ sheetCall (now (input .entry)) (now (out .entry)) .answer) ⌝ }
 {
-    if 60_000 < input.len() {
-        return refuse(Refusal::TooLong, out);
-    }
     let mut days = [0i64; 9];
     let mut factors = [0i64; 601];
     let mut bounds = [0i64; 8];
@@ -176,4 +174,43 @@ pub fn sheet(input: &[u8], out: &mut [u8]) -> Written
         Sheeting::Read(held) => answer_read(input, held, &days, &factors, &bounds, &values, out),
         Sheeting::Fault => refuse(Refusal::NotOfForm, out),
     }
+}
+
+// The same with less room to clear; a sheet with more values than that is read again.
+fn short_sheet(input: &[u8], out: &mut [u8]) -> Written
+    requires { ⌜ length (now input) ≤ 60_000 ⌝ }
+    ensures { λ r. ⌜ (now (out .exit) ≡ sheetCall (now (input .entry)) (now (out .entry)) .buffer)
+        × (writtenAnswer r ≡ sheetCall (now (input .entry)) (now (out .entry)) .answer) ⌝ }
+{
+    let mut days = [0i64; 9];
+    let mut factors = [0i64; 601];
+    let mut bounds = [0i64; 8];
+    let mut values = [0i64; 1024];
+    let sheeting = lines::read_sheet(input, &mut days, &mut factors, &mut bounds, &mut values);
+    match sheeting {
+        Sheeting::Read(held) => {
+            let read = held.values;
+            if read <= 1024 {
+                answer_read(input, held, &days, &factors, &bounds, &values, out)
+            } else {
+                long_sheet(input, out)
+            }
+        }
+        Sheeting::Fault => refuse(Refusal::NotOfForm, out),
+    }
+}
+
+// The lines of a sheet's answer, or its one line `refused,` with the number, from the first byte of `out` on.
+pub fn sheet(input: &[u8], out: &mut [u8]) -> Written
+    ensures { λ r. ⌜ (now (out .exit) ≡ sheetCall (now (input .entry)) (now (out .entry)) .buffer)
+        × (writtenAnswer r ≡ sheetCall (now (input .entry)) (now (out .entry)) .answer) ⌝ }
+{
+    if 60_000 < input.len() {
+        return refuse(Refusal::TooLong, out);
+    }
+    // in so few bytes there are seldom more values than the smaller room holds
+    if input.len() <= 5120 {
+        return short_sheet(input, out);
+    }
+    long_sheet(input, out)
 }

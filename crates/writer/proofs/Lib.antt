@@ -2,15 +2,16 @@
 
 pub mod Built
 pub mod Decimal
-pub mod DigitRuns
 pub mod FieldTexts
 pub mod Letters
 pub mod Numbers
+pub mod Pairs
 pub mod Payoffs
 pub mod Plans
 pub mod Puts
 pub mod RowTexts
 pub mod SettingTexts
+pub mod Splits
 pub mod Tables
 pub mod Texts
 pub mod Values

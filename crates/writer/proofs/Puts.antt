@@ -20,6 +20,11 @@ none = record { is = refl; ends = omega arith }
 pub one : (a : List ℕ) (i b : ℕ) → Put a (set a i b) i (i + 1) (b ∷ [])
 one a i b = record { is = refl; ends = omega arith }
 
+pub pair : (a : List ℕ) (i x y : ℕ) → Put a (set (set a i x) (i + 1) y) i (i + 2) (x ∷ y ∷ [])
+pair a i x y =
+    let p : i + 1 ≡ suc i = omega arith in
+    record { is = rw p; ends = omega arith }
+
 pub three : (a : List ℕ) (i x y z : ℕ) → Put a (set (set (set a i x) (i + 1) y) (i + 2) z) i (i + 3) (x ∷ y ∷ z ∷ [])
 three a i x y z =
     let p : i + 1 ≡ suc i = omega arith in let q : i + 2 ≡ suc (suc i) = omega arith in

@@ -4,6 +4,7 @@ ghost use Prim.Native.Nat.{_+_, _<_, _^_, _≤_};
 ghost use lib.IntN.{natAbs};
 ghost use lib.ListN.{length};
 ghost use Rattle.language.specs.Text.Number.{printNat, printNumber};
+ghost use Rattle.writer.specs.Digits.{allPairs, eight, four, two};
 ghost use Rattle.writer.specs.Put.{Put};
 ghost use Rattle.writer.specs.Written.{slot};
 
@@ -16,35 +17,148 @@ pub fn magnitude(nodes: &[i64], k: usize) -> u64
     if z < 0 { (-1 - z) as u64 + 1 } else { z as u64 }
 }
 
-// How many digits n has.
+// How many digits a number below 10,000 has.
+fn few_digits(n: u64) -> usize
+    requires { ⌜ n < 10_000 ⌝ }
+    ensures { λ r. ⌜ r ≡ length (printNat n) ⌝ }
+{
+    if n < 100 {
+        if n < 10 { 1 } else { 2 }
+    } else {
+        if n < 1000 { 3 } else { 4 }
+    }
+}
+
+// How many digits n has, four at a time.
 pub fn digit_count(n: u64) -> usize
     requires { ⌜ n ≤ 2 ^ 63 ⌝ }
     ensures { λ r. ⌜ r ≡ length (printNat n) ⌝ }
 {
-    let mut count: usize = 1;
-    let mut power: u64 = 10;
-    while power <= n {
-        power = power * 10;
-        count += 1;
+    let mut behind: usize = 0;
+    let mut left = n;
+    while 10_000 <= left {
+        left = left / 10_000;
+        behind += 4;
     }
-    count
+    behind + few_digits(left)
 }
 
-// Writes the digits of n, the last one first, and answers the place behind them.
+// ---- so many digits, zeros in front among them
+
+fn put_two(n: u32, out: &mut [u8], at: usize) -> usize
+    requires { ⌜ (n < 100) × (at + 2 ≤ length (now out)) ⌝ }
+    ensures { λ r. ⌜ Put (now (out .entry)) (now (out .exit)) at r (two n) ⌝ }
+{
+    out[at] = 48 + (n / 10) as u8;
+    out[at + 1] = 48 + (n % 10) as u8;
+    at + 2
+}
+
+// The digits of n, from the table of all pairs.
+fn put_pair(pairs: &[u8; 200], n: u32, out: &mut [u8], at: usize) -> usize
+    requires { ⌜ (n < 100) × (at + 2 ≤ length (now out)) × (now pairs ≡ allPairs) ⌝ }
+    ensures { λ r. ⌜ Put (now (out .entry)) (now (out .exit)) at r (two n) ⌝ }
+{
+    let k = 2 * n as usize;
+    let tens = pairs[k];
+    let ones = pairs[k + 1];
+    out[at] = tens;
+    out[at + 1] = ones;
+    at + 2
+}
+
+fn put_four(pairs: &[u8; 200], n: u32, out: &mut [u8], at: usize) -> usize
+    requires { ⌜ (n < 10_000) × (at + 4 ≤ length (now out)) × (now pairs ≡ allPairs) ⌝ }
+    ensures { λ r. ⌜ Put (now (out .entry)) (now (out .exit)) at r (four n) ⌝ }
+{
+    let next = put_pair(pairs, n / 100, out, at);
+    put_pair(pairs, n % 100, out, next)
+}
+
+fn put_eight(pairs: &[u8; 200], n: u32, out: &mut [u8], at: usize) -> usize
+    requires { ⌜ (n < 100_000_000) × (at + 8 ≤ length (now out)) × (now pairs ≡ allPairs) ⌝ }
+    ensures { λ r. ⌜ Put (now (out .entry)) (now (out .exit)) at r (eight n) ⌝ }
+{
+    let next = put_four(pairs, n / 10_000, out, at);
+    put_four(pairs, n % 10_000, out, next)
+}
+
+// ---- the digits of n: of a number too long for one function, what stands in front, then the rest
+
+fn put_to_two(n: u32, out: &mut [u8], at: usize) -> usize
+    requires { ⌜ (n < 100) × (at + length (printNat n) ≤ length (now out)) ⌝ }
+    ensures { λ r. ⌜ Put (now (out .entry)) (now (out .exit)) at r (printNat n) ⌝ }
+{
+    if n < 10 {
+        out[at] = 48 + n as u8;
+        at + 1
+    } else {
+        put_two(n, out, at)
+    }
+}
+
+// Writes the digits of a number below 10,000.
+pub fn put_to_four(pairs: &[u8; 200], n: u32, out: &mut [u8], at: usize) -> usize
+    requires { ⌜ (n < 10_000) × (at + length (printNat n) ≤ length (now out)) × (now pairs ≡ allPairs) ⌝ }
+    ensures { λ r. ⌜ Put (now (out .entry)) (now (out .exit)) at r (printNat n) ⌝ }
+{
+    if n < 100 {
+        put_to_two(n, out, at)
+    } else {
+        let next = put_to_two(n / 100, out, at);
+        put_pair(pairs, n % 100, out, next)
+    }
+}
+
+fn put_to_eight(pairs: &[u8; 200], n: u32, out: &mut [u8], at: usize) -> usize
+    requires { ⌜ (n < 100_000_000) × (at + length (printNat n) ≤ length (now out)) × (now pairs ≡ allPairs) ⌝ }
+    ensures { λ r. ⌜ Put (now (out .entry)) (now (out .exit)) at r (printNat n) ⌝ }
+{
+    if n < 10_000 {
+        put_to_four(pairs, n, out, at)
+    } else {
+        let next = put_to_four(pairs, n / 10_000, out, at);
+        put_four(pairs, n % 10_000, out, next)
+    }
+}
+
+fn put_to_sixteen(pairs: &[u8; 200], n: u64, out: &mut [u8], at: usize) -> usize
+    requires { ⌜ (n < 10_000_000_000_000_000) × (at + length (printNat n) ≤ length (now out)) × (now pairs ≡ allPairs) ⌝ }
+    ensures { λ r. ⌜ Put (now (out .entry)) (now (out .exit)) at r (printNat n) ⌝ }
+{
+    if n < 100_000_000 {
+        put_to_eight(pairs, n as u32, out, at)
+    } else {
+        let next = put_to_eight(pairs, (n / 100_000_000) as u32, out, at);
+        put_eight(pairs, (n % 100_000_000) as u32, out, next)
+    }
+}
+
+// Writes the digits of n, and answers the place behind them.
+pub fn put_by_pairs(pairs: &[u8; 200], n: u64, out: &mut [u8], at: usize) -> usize
+    requires { ⌜ (n ≤ 2 ^ 63) × (at + length (printNat n) ≤ length (now out)) × (now pairs ≡ allPairs) ⌝ }
+    ensures { λ r. ⌜ Put (now (out .entry)) (now (out .exit)) at r (printNat n) ⌝ }
+{
+    if n < 10_000_000_000_000_000 {
+        put_to_sixteen(pairs, n, out, at)
+    } else {
+        let next = put_to_sixteen(pairs, n / 100_000_000, out, at);
+        put_eight(pairs, (n % 100_000_000) as u32, out, next)
+    }
+}
+
+// The same where the caller holds no table; short numbers need none.
 pub fn put_digits(n: u64, out: &mut [u8], at: usize) -> usize
     requires { ⌜ (n ≤ 2 ^ 63) × (at + length (printNat n) ≤ length (now out)) ⌝ }
     ensures { λ r. ⌜ Put (now (out .entry)) (now (out .exit)) at r (printNat n) ⌝ }
 {
-    let end = at + digit_count(n);
-    let mut left = n;
-    let mut k = end - 1;
-    while 10 <= left {
-        out[k] = 48 + (left % 10) as u8;
-        left = left / 10;
-        k -= 1;
+    if n < 100 {
+        put_to_two(n as u32, out, at)
+    } else {
+        let pairs =
+            b"00010203040506070809101112131415161718192021222324252627282930313233343536373839404142434445464748495051525354555657585960616263646566676869707172737475767778798081828384858687888990919293949596979899";
+        put_by_pairs(pairs, n, out, at)
     }
-    out[k] = 48 + left as u8;
-    end
 }
 
 // The bytes of the number at k.
@@ -69,5 +183,20 @@ pub fn put_number(nodes: &[i64], k: usize, out: &mut [u8], at: usize) -> usize
         put_digits(n, out, at + 1)
     } else {
         put_digits(n, out, at)
+    }
+}
+
+// Writes the number at k, where the caller holds the table.
+pub fn put_number_by(pairs: &[u8; 200], nodes: &[i64], k: usize, out: &mut [u8], at: usize) -> usize
+    requires { ⌜ (k < length (now nodes)) × (at + length (printNumber (slot (now nodes) k)) ≤ length (now out)) × (now pairs ≡ allPairs) ⌝ }
+    ensures { λ r. ⌜ Put (now (out .entry)) (now (out .exit)) at r (printNumber (slot (now (nodes .entry)) k)) ⌝ }
+{
+    let z = nodes[k];
+    let n = magnitude(nodes, k);
+    if z < 0 {
+        out[at] = b'-';
+        put_by_pairs(pairs, n, out, at + 1)
+    } else {
+        put_by_pairs(pairs, n, out, at)
     }
 }

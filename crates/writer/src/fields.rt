@@ -5,6 +5,7 @@ ghost use lib.ListN.{length, replicate};
 ghost use Rattle.language.specs.Text.Classes.{settingFields};
 ghost use Rattle.language.specs.Text.Fields.{behind};
 ghost use Rattle.language.specs.Text.Letters.{delay, month};
+ghost use Rattle.writer.specs.Digits.{allPairs};
 ghost use Rattle.writer.specs.Put.{Put};
 ghost use Rattle.writer.specs.Shapes.{delayField, monthField, numberField, settingsText};
 ghost use Rattle.writer.specs.Written.{fieldText, slot};
@@ -124,4 +125,13 @@ pub fn put_field(nodes: &[i64], k: usize, out: &mut [u8], at: usize) -> usize
 {
     out[at] = b',';
     digits::put_number(nodes, k, out, at + 1)
+}
+
+// The same, where the caller holds the table of pairs.
+pub fn put_field_by(pairs: &[u8; 200], nodes: &[i64], k: usize, out: &mut [u8], at: usize) -> usize
+    requires { ⌜ (k < length (now nodes)) × (at + length (numberField (slot (now nodes) k)) ≤ length (now out)) × (now pairs ≡ allPairs) ⌝ }
+    ensures { λ r. ⌜ Put (now (out .entry)) (now (out .exit)) at r (numberField (slot (now (nodes .entry)) k)) ⌝ }
+{
+    out[at] = b',';
+    digits::put_number_by(pairs, nodes, k, out, at + 1)
 }

@@ -15,47 +15,50 @@ use Rattle.writer.specs.Written.{slot}
 use Rattle.printing.proofs.put_month.Statement.{statement}
 use Rattle.printing.proofs.put_month.Tie as tie
 
-put-digits-requires : tie.Need-put-digits-requires
+cast-put-to-four : tie.Need-cast-put-to-four
+cast-put-to-four c = search needs
+
+put-to-four-requires : tie.Need-put-to-four-requires
 unfolding monthText
-put-digits-requires c κs =
+put-to-four-requires c κs =
     let s = c .before .before in
     let A = printNat (s .args .m) in
     let B = numberField (slot (s .args .column .now) (s .args .m)) in
     let C = numberField (slot (s .args .rest .now) (s .args .m)) in
     let o = s .args .out .now in
     let r : s .args .at + length (A ++ (B ++ (C ++ newLine))) ≤ length o = s .pre .3 in
-    (omega (arith, s .pre .2), first-room A B C o _ r)
+    (omega (arith, s .pre .2), first-room A B C o _ r, s .pre .4)
 
-put-field-requires : tie.Need-put-field-requires
+put-field-by-requires : tie.Need-put-field-by-requires
 unfolding monthText
-put-field-requires c κs =
+put-field-by-requires c κs =
     let s = c .before .before .before .before .before .before in
     let A = printNat (s .args .m) in
     let B = numberField (slot (s .args .column .now) (s .args .m)) in
     let C = numberField (slot (s .args .rest .now) (s .args .m)) in
     let o = s .args .out .now in
     let r : s .args .at + length (A ++ (B ++ (C ++ newLine))) ≤ length o = s .pre .3 in
-    let l1 = later-room A B C o _ r (c .before .before .before .put-digits .ensures) in
-    let o1 = c .before .before .before .put-digits .last .1 .0 in
-    let i1 = c .before .before .before .put-digits .result in
-    (s .pre .0, second-room B C o1 i1 l1)
+    let l1 = later-room A B C o _ r (c .before .before .before .put-to-four .ensures) in
+    let o1 = c .before .before .before .put-to-four .last .1 .1 .0 in
+    let i1 = c .before .before .before .put-to-four .result in
+    (s .pre .0, second-room B C o1 i1 l1, s .pre .4)
 
-put-field-requires-2 : tie.Need-put-field-requires-2
+put-field-by-requires-2 : tie.Need-put-field-by-requires-2
 unfolding monthText
-put-field-requires-2 c κs =
+put-field-by-requires-2 c κs =
     let s = c .before .before .before .before .before .before .before .before .before .before in
     let A = printNat (s .args .m) in
     let B = numberField (slot (s .args .column .now) (s .args .m)) in
     let C = numberField (slot (s .args .rest .now) (s .args .m)) in
     let o = s .args .out .now in
     let r : s .args .at + length (A ++ (B ++ (C ++ newLine))) ≤ length o = s .pre .3 in
-    let l1 = later-room A B C o _ r (c .before .before .before .before .before .before .before .put-digits .ensures) in
-    let o1 = c .before .before .before .before .before .before .before .put-digits .last .1 .0 in
-    let i1 = c .before .before .before .before .before .before .before .put-digits .result in
-    let l2 = rest-room B C o1 i1 l1 (c .before .before .before .put-field .ensures) in
-    let o2 = c .before .before .before .put-field .last .1 .1 .0 in
-    let i2 = c .before .before .before .put-field .result in
-    (s .pre .1, last-room C o2 i2 l2)
+    let l1 = later-room A B C o _ r (c .before .before .before .before .before .before .before .put-to-four .ensures) in
+    let o1 = c .before .before .before .before .before .before .before .put-to-four .last .1 .1 .0 in
+    let i1 = c .before .before .before .before .before .before .before .put-to-four .result in
+    let l2 = rest-room B C o1 i1 l1 (c .before .before .before .put-field-by .ensures) in
+    let o2 = c .before .before .before .put-field-by .last .1 .1 .1 .0 in
+    let i2 = c .before .before .before .put-field-by .result in
+    (s .pre .1, last-room C o2 i2 l2, s .pre .4)
 
 slice-write-out : tie.Need-slice-write-out
 unfolding monthText
@@ -66,13 +69,13 @@ slice-write-out c =
     let C = numberField (slot (s .args .rest .now) (s .args .m)) in
     let o = s .args .out .now in
     let r : s .args .at + length (A ++ (B ++ (C ++ newLine))) ≤ length o = s .pre .3 in
-    let l1 = later-room A B C o _ r (c .before .before .before .before .before .before .before .before .before .before .put-digits .ensures) in
-    let o1 = c .before .before .before .before .before .before .before .before .before .before .put-digits .last .1 .0 in
-    let i1 = c .before .before .before .before .before .before .before .before .before .before .put-digits .result in
-    let l2 = rest-room B C o1 i1 l1 (c .before .before .before .before .before .before .put-field .ensures) in
-    let o2 = c .before .before .before .before .before .before .put-field .last .1 .1 .0 in
-    let i2 = c .before .before .before .before .before .before .put-field .result in
-    feed-room C o2 i2 l2 (c .before .before .put-field2 .ensures)
+    let l1 = later-room A B C o _ r (c .before .before .before .before .before .before .before .before .before .before .put-to-four .ensures) in
+    let o1 = c .before .before .before .before .before .before .before .before .before .before .put-to-four .last .1 .1 .0 in
+    let i1 = c .before .before .before .before .before .before .before .before .before .before .put-to-four .result in
+    let l2 = rest-room B C o1 i1 l1 (c .before .before .before .before .before .before .put-field-by .ensures) in
+    let o2 = c .before .before .before .before .before .before .put-field-by .last .1 .1 .1 .0 in
+    let i2 = c .before .before .before .before .before .before .put-field-by .result in
+    feed-room C o2 i2 l2 (c .before .before .put-field-by2 .ensures)
 
 add-result : tie.Need-add-result
 unfolding monthText
@@ -83,13 +86,13 @@ add-result c =
     let C = numberField (slot (s .args .rest .now) (s .args .m)) in
     let o = s .args .out .now in
     let r : s .args .at + length (A ++ (B ++ (C ++ newLine))) ≤ length o = s .pre .3 in
-    let l1 = later-room A B C o _ r (c .before .before .before .before .before .before .before .before .before .before .put-digits .ensures) in
-    let o1 = c .before .before .before .before .before .before .before .before .before .before .put-digits .last .1 .0 in
-    let i1 = c .before .before .before .before .before .before .before .before .before .before .put-digits .result in
-    let l2 = rest-room B C o1 i1 l1 (c .before .before .before .before .before .before .put-field .ensures) in
-    let o2 = c .before .before .before .before .before .before .put-field .last .1 .1 .0 in
-    let i2 = c .before .before .before .before .before .before .put-field .result in
-    let h = feed-room C o2 i2 l2 (c .before .before .put-field2 .ensures) in
+    let l1 = later-room A B C o _ r (c .before .before .before .before .before .before .before .before .before .before .put-to-four .ensures) in
+    let o1 = c .before .before .before .before .before .before .before .before .before .before .put-to-four .last .1 .1 .0 in
+    let i1 = c .before .before .before .before .before .before .before .before .before .before .put-to-four .result in
+    let l2 = rest-room B C o1 i1 l1 (c .before .before .before .before .before .before .put-field-by .ensures) in
+    let o2 = c .before .before .before .before .before .before .put-field-by .last .1 .1 .1 .0 in
+    let i2 = c .before .before .before .before .before .before .put-field-by .result in
+    let h = feed-room C o2 i2 l2 (c .before .before .put-field-by2 .ensures) in
     search needs
 
 same-length : tie.Need-same-length
@@ -101,13 +104,13 @@ same-length c =
     let C = numberField (slot (s .args .rest .now) (s .args .m)) in
     let o = s .args .out .now in
     let r : s .args .at + length (A ++ (B ++ (C ++ newLine))) ≤ length o = s .pre .3 in
-    let l1 = later-room A B C o _ r (c .before .before .before .before .before .before .before .before .before .before .put-digits .ensures) in
-    let o1 = c .before .before .before .before .before .before .before .before .before .before .put-digits .last .1 .0 in
-    let i1 = c .before .before .before .before .before .before .before .before .before .before .put-digits .result in
-    let l2 = rest-room B C o1 i1 l1 (c .before .before .before .before .before .before .put-field .ensures) in
-    let o2 = c .before .before .before .before .before .before .put-field .last .1 .1 .0 in
-    let i2 = c .before .before .before .before .before .before .put-field .result in
-    kept (then (c .before .before .before .before .before .before .before .before .before .before .put-digits .ensures) (then (c .before .before .before .before .before .before .put-field .ensures) (ended C o2 i2 l2 (c .before .before .put-field2 .ensures))))
+    let l1 = later-room A B C o _ r (c .before .before .before .before .before .before .before .before .before .before .put-to-four .ensures) in
+    let o1 = c .before .before .before .before .before .before .before .before .before .before .put-to-four .last .1 .1 .0 in
+    let i1 = c .before .before .before .before .before .before .before .before .before .before .put-to-four .result in
+    let l2 = rest-room B C o1 i1 l1 (c .before .before .before .before .before .before .put-field-by .ensures) in
+    let o2 = c .before .before .before .before .before .before .put-field-by .last .1 .1 .1 .0 in
+    let i2 = c .before .before .before .before .before .before .put-field-by .result in
+    kept (then (c .before .before .before .before .before .before .before .before .before .before .put-to-four .ensures) (then (c .before .before .before .before .before .before .put-field-by .ensures) (ended C o2 i2 l2 (c .before .before .put-field-by2 .ensures))))
 
 returns : tie.Need-returns
 unfolding monthText
@@ -118,21 +121,22 @@ returns c =
     let C = numberField (slot (s .args .rest .now) (s .args .m)) in
     let o = s .args .out .now in
     let r : s .args .at + length (A ++ (B ++ (C ++ newLine))) ≤ length o = s .pre .3 in
-    let l1 = later-room A B C o _ r (c .before .before .before .before .before .before .before .before .before .before .put-digits .ensures) in
-    let o1 = c .before .before .before .before .before .before .before .before .before .before .put-digits .last .1 .0 in
-    let i1 = c .before .before .before .before .before .before .before .before .before .before .put-digits .result in
-    let l2 = rest-room B C o1 i1 l1 (c .before .before .before .before .before .before .put-field .ensures) in
-    let o2 = c .before .before .before .before .before .before .put-field .last .1 .1 .0 in
-    let i2 = c .before .before .before .before .before .before .put-field .result in
-    then (c .before .before .before .before .before .before .before .before .before .before .put-digits .ensures) (then (c .before .before .before .before .before .before .put-field .ensures) (ended C o2 i2 l2 (c .before .before .put-field2 .ensures)))
+    let l1 = later-room A B C o _ r (c .before .before .before .before .before .before .before .before .before .before .put-to-four .ensures) in
+    let o1 = c .before .before .before .before .before .before .before .before .before .before .put-to-four .last .1 .1 .0 in
+    let i1 = c .before .before .before .before .before .before .before .before .before .before .put-to-four .result in
+    let l2 = rest-room B C o1 i1 l1 (c .before .before .before .before .before .before .put-field-by .ensures) in
+    let o2 = c .before .before .before .before .before .before .put-field-by .last .1 .1 .1 .0 in
+    let i2 = c .before .before .before .before .before .before .put-field-by .result in
+    then (c .before .before .before .before .before .before .before .before .before .before .put-to-four .ensures) (then (c .before .before .before .before .before .before .put-field-by .ensures) (ended C o2 i2 l2 (c .before .before .put-field-by2 .ensures)))
 
 pub put-month-spec : {M : Type 1} → statement M
 put-month-spec =
     tie.close
     (tie.spec
-    put-digits-requires
-    put-field-requires
-    put-field-requires-2
+    cast-put-to-four
+    put-to-four-requires
+    put-field-by-requires
+    put-field-by-requires-2
     slice-write-out
     add-result
     same-length

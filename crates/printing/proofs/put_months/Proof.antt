@@ -10,10 +10,10 @@ use Rattle.printing.proofs.put_months.Statement.{statement}
 use Rattle.printing.proofs.put_months.Tie as tie
 
 abbrev Inv-loop : tie.InvT-loop
-Inv-loop column rest months out₀ at place₀ m₀ out place m = Printing column rest months out₀ out at place m
+Inv-loop pairs column rest months out₀ at place₀ m₀ out place m = Printing column rest months out₀ out at place m
 
 abbrev μ-loop : tie.MeasureT-loop
-μ-loop column rest months out₀ at place₀ m₀ out place m = months - m
+μ-loop pairs column rest months out₀ at place₀ m₀ out place m = months - m
 
 loop-holds : tie.Need-loop-holds Inv-loop μ-loop
 loop-holds c = printing-starts _ _ _ _ _
@@ -21,7 +21,7 @@ loop-holds c = printing-starts _ _ _ _ _
 put-month-requires : tie.Need-put-month-requires Inv-loop μ-loop
 put-month-requires c κs =
     let s = c .before .before .before .before in
-    (omega (arith, s .pre .0, c .before .loop-test .taken), omega (arith, s .pre .1, c .before .loop-test .taken), omega (arith, s .pre .2, c .before .loop-test .taken), next-room _ _ (c .before .before .loop .inv) (c .before .loop-test .taken) (s .pre .3))
+    (omega (arith, s .pre .0, c .before .loop-test .taken), omega (arith, s .pre .1, c .before .loop-test .taken), omega (arith, s .pre .2, c .before .loop-test .taken), next-room _ _ (c .before .before .loop .inv) (c .before .loop-test .taken) (s .pre .3), s .pre .4)
 
 add-m : tie.Need-add-m Inv-loop μ-loop
 add-m c =

@@ -1,12 +1,15 @@
-use Prim.Native.Nat.{_≤_}
+-- `sheet` meets its contract.
 use borrow.Author.Needs.{needs}
-use lib.ListN.{length}
-use mathlib.Core.Path.{_∙_, _≡_, ap, refl, subst}
-use native.Mathlib.Omega.{arith}
-use Rattle.lines.specs.Sheets.{SheetIs}
-use Rattle.sheets.proofs.SheetReads.{faulty, too-long}
+use mathlib.Core.Path.{_∙_, ap}
+use Rattle.sheets.proofs.SheetReads.{too-long}
 use Rattle.sheets.proofs.sheet.Statement.{statement}
 use Rattle.sheets.proofs.sheet.Tie as tie
+
+refuse-requires : tie.Need-refuse-requires
+refuse-requires c κs = search needs
+
+same-length : tie.Need-same-length
+same-length c = search needs
 
 returns : tie.Need-returns
 returns c =
@@ -14,52 +17,34 @@ returns c =
     let e = too-long (s .args .input .now) (c .before .before .before .before .if1 .taken) (s .args .out .now) in
     (c .before .before .refuse .ensures .0 ∙ ap (λ o. o .buffer) e, c .before .before .refuse .ensures .1 ∙ ap (λ o. o .answer) e)
 
-read-sheet-requires : tie.Need-read-sheet-requires
-read-sheet-requires c κs =
-    let s = c .before .before .before .before .before .before .before in
-    omega (arith, c .before .before .before .before .if1 .left)
+short-sheet-requires : tie.Need-short-sheet-requires
+short-sheet-requires c κs = search needs
 
-answer-read-requires : tie.Need-answer-read-requires
-answer-read-requires c κs =
-    let s = c .before .before .before .before .before .before .before .before .before .before .before .before .before .before .before .before .before .before .before .before in
-    let z : length (s .args .input .now) ≤ 60_000 = omega (arith, c .before .before .before .before .before .before .before .before .before .before .before .before .before .before .before .before .before .if1 .left) in
-    record {
-      read = subst (SheetIs (s .args .input .now) (c .before .before .before .before .before .before .before .before .before .before .before .before .read-sheet .last .1 .0) (c .before .before .before .before .before .before .before .before .before .before .before .before .read-sheet .last .1 .1 .0) (c .before .before .before .before .before .before .before .before .before .before .before .before .read-sheet .last .1 .1 .1 .0) (c .before .before .before .before .before .before .before .before .before .before .before .before .read-sheet .last .1 .1 .1 .1 .0)) (c .before .before .before .before .before .before .sheeting .given .1) (c .before .before .before .before .before .before .before .before .before .before .before .before .read-sheet .ensures);
-      short = z;
-      settings = c .before .before .before .before .before .before .before .before .before .before .before .before .read-sheet .kept .1 .0;
-      months = c .before .before .before .before .before .before .before .before .before .before .before .before .read-sheet .kept .1 .1 .0;
-      labels = c .before .before .before .before .before .before .before .before .before .before .before .before .read-sheet .kept .1 .1 .1 .0;
-      places = c .before .before .before .before .before .before .before .before .before .before .before .before .read-sheet .kept .1 .1 .1 .1 .0;
-    }
+same-length-2 : tie.Need-same-length-2
+same-length-2 c = search needs
+
+returns-2 : tie.Need-returns-2
+returns-2 c = search needs
+
+long-sheet-requires : tie.Need-long-sheet-requires
+long-sheet-requires c κs = search needs
+
+same-length-3 : tie.Need-same-length-3
+same-length-3 c = search needs
 
 returns-3 : tie.Need-returns-3
-returns-3 c =
-    let s = c .before .before .before .before .before .before .before .before .before .before .before .before .before .before .before .before .before .before in
-    let z : length (s .args .input .now) ≤ 60_000 = omega (arith, c .before .before .before .before .before .before .before .before .before .before .before .before .before .before .before .if1 .left) in
-    let e = faulty (s .args .input .now) z (subst (SheetIs (s .args .input .now) (c .before .before .before .before .before .before .before .before .before .before .read-sheet .last .1 .0) (c .before .before .before .before .before .before .before .before .before .before .read-sheet .last .1 .1 .0) (c .before .before .before .before .before .before .before .before .before .before .read-sheet .last .1 .1 .1 .0) (c .before .before .before .before .before .before .before .before .before .before .read-sheet .last .1 .1 .1 .1 .0)) (c .before .before .before .before .enum-told .given .1) (c .before .before .before .before .before .before .before .before .before .before .read-sheet .ensures)) (s .args .out .now) in
-    (c .before .before .refuse2 .ensures .0 ∙ ap (λ o. o .buffer) e, c .before .before .refuse2 .ensures .1 ∙ ap (λ o. o .answer) e)
+returns-3 c = search needs
 
 pub sheet-spec : {M : Type 1} → statement M
 sheet-spec =
     tie.close
     (tie.spec
-    (λ c κs. search needs)
-    (λ c. search needs)
+    refuse-requires
+    same-length
     returns
-    (λ c. search needs)
-    (λ c. search needs)
-    (λ c. search needs)
-    (λ c. search needs)
-    read-sheet-requires
-    (λ c. search needs)
-    (λ c. search needs)
-    (λ c. search needs)
-    (λ c. search needs)
-    (λ c. search needs)
-    answer-read-requires
-    (λ c. search needs)
-    (λ c κs. search needs)
-    (λ c. search needs)
-    (λ c. search needs)
-    (λ c. search needs)
+    short-sheet-requires
+    same-length-2
+    returns-2
+    long-sheet-requires
+    same-length-3
     returns-3)
