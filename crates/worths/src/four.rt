@@ -30,10 +30,11 @@ use tables::Span;
 use tables::lookup;
 use tables::lookup::Place;
 
-// An amount in four months; what `four` holds counts only where `all` came without a refusal.
+// An amount in four months; it counts only where `all` is 1: all four came without a refusal. A whole word, so that answers are moved in
+// whole words.
 pub struct FourValues {
-    pub all: bool,
     pub four: Four,
+    pub all: u64,
 }
 
 pub struct FourTests {
@@ -43,16 +44,16 @@ pub struct FourTests {
 
 // Nothing is said.
 pub fn unsure() -> FourValues
-    ensures { λ r. ⌜ (r .all ≡ true → ⊥) ⌝ }
+    ensures { λ r. ⌜ (r .all ≡ 1 → ⊥) ⌝ }
 {
     FourValues {
-        all: false,
         four: Four {
             a: Pence(0),
             b: Pence(0),
             c: Pence(0),
             d: Pence(0),
         },
+        all: 0,
     }
 }
 
@@ -72,8 +73,8 @@ fn gathered(x: Valued, y: Valued, z: Valued, u: Valued) -> FourValues
         return unsure();
     };
     FourValues {
-        all: true,
         four: Four { a, b, c, d },
+        all: 1,
     }
 }
 
@@ -84,8 +85,8 @@ pub fn number(nodes: &[i64; 2560], at: usize) -> FourValues
     ensures { λ r. ⌜ SureFour r (λ k. inRange maxAmount (slotAt (now (nodes .entry)) at 1)) ⌝ }
 {
     FourValues {
-        all: true,
         four: four_rows::number(nodes, at),
+        all: 1,
     }
 }
 
@@ -95,13 +96,13 @@ fn values_at(values: &[i64], i: usize) -> FourValues
     ensures { λ r. ⌜ SureFour r (λ k. standing (now (values .entry)) (At (i + k))) ⌝ }
 {
     FourValues {
-        all: true,
         four: Four {
             a: amounts::rows::value_at(values, i),
             b: amounts::rows::value_at(values, i + 1),
             c: amounts::rows::value_at(values, i + 2),
             d: amounts::rows::value_at(values, i + 3),
         },
+        all: 1,
     }
 }
 
@@ -130,8 +131,8 @@ pub fn over(nodes: &[i64; 2560], at: usize, x: FourValues) -> FourValues
     ensures { λ r. ⌜ From (dividedBy (natOf (slotAt (now (nodes .entry)) at 1))) x r ⌝ }
 {
     FourValues {
-        all: x.all,
         four: four_rows::over(nodes, at, x.four),
+        all: x.all,
     }
 }
 
@@ -141,7 +142,7 @@ pub fn sum_of(x: FourValues, y: FourValues) -> FourValues
     requires { ⌜ SmallFour x × SmallFour y ⌝ }
     ensures { λ r. ⌜ FromTwo (λ a b. inRange maxAmount (a +ℤ b)) x y r ⌝ }
 {
-    if x.all & y.all {
+    if (x.all == 1) & (y.all == 1) {
         return gathered(
             answers::amount_of(integers::sum(x.four.a, y.four.a)),
             answers::amount_of(integers::sum(x.four.b, y.four.b)),
@@ -156,7 +157,7 @@ pub fn difference_of(x: FourValues, y: FourValues) -> FourValues
     requires { ⌜ SmallFour x × SmallFour y ⌝ }
     ensures { λ r. ⌜ FromTwo (λ a b. inRange maxAmount (a -ℤ b)) x y r ⌝ }
 {
-    if x.all & y.all {
+    if (x.all == 1) & (y.all == 1) {
         return gathered(
             answers::amount_of(integers::difference(x.four.a, y.four.a)),
             answers::amount_of(integers::difference(x.four.b, y.four.b)),
@@ -171,7 +172,7 @@ pub fn product_of(x: FourValues, y: FourValues) -> FourValues
     requires { ⌜ SmallFour x × SmallFour y ⌝ }
     ensures { λ r. ⌜ FromTwo (λ a b. inRange maxAmount (a *ℤ b)) x y r ⌝ }
 {
-    if x.all & y.all {
+    if (x.all == 1) & (y.all == 1) {
         return gathered(
             answers::amount_of(integers::product(x.four.a, y.four.a)),
             answers::amount_of(integers::product(x.four.b, y.four.b)),
@@ -186,10 +187,13 @@ pub fn product_of(x: FourValues, y: FourValues) -> FourValues
 pub fn chosen(t: FourTests, x: FourValues, y: FourValues) -> FourValues
     ensures { λ r. ⌜ Chosen t x y r ⌝ }
 {
-    FourValues {
-        all: t.all & (x.all & y.all),
-        four: four::chosen(t.held, x.four, y.four),
+    if t.all & ((x.all == 1) & (y.all == 1)) {
+        return FourValues {
+            four: four::chosen(t.held, x.four, y.four),
+            all: 1,
+        };
     }
+    unsure()
 }
 
 // ---- tests
@@ -198,7 +202,7 @@ pub fn less_than(x: FourValues, y: FourValues) -> FourTests
     ensures { λ r. ⌜ FromTest (λ a b. got (ltZ a b)) x y r ⌝ }
 {
     FourTests {
-        all: x.all & y.all,
+        all: (x.all == 1) & (y.all == 1),
         held: four::less(x.four, y.four),
     }
 }
@@ -207,7 +211,7 @@ pub fn equal_to(x: FourValues, y: FourValues) -> FourTests
     ensures { λ r. ⌜ FromTest (λ a b. got (eqZ a b)) x y r ⌝ }
 {
     FourTests {
-        all: x.all & y.all,
+        all: (x.all == 1) & (y.all == 1),
         held: four::equal(x.four, y.four),
     }
 }

@@ -1,4 +1,5 @@
 use borrow.Author.Needs.{needs}
+use borrow.Author.Tests.{eqb-true}
 use lib.IntN.{_-ℤ_}
 use native.Mathlib.Omega.{arith}
 use Rattle.amounts.proofs.FourMonths.{each}
@@ -13,33 +14,33 @@ difference-requires : tie.Need-difference-requires
 unfolding valueIn
 difference-requires c κs =
     let b = and-e _ _ (c .if1 .taken) in
-    (c .before .before .before .pre .0 (b .0) 0 (omega arith), c .before .before .before .pre .1 (b .1) 0 (omega arith))
+    (c .before .before .before .pre .0 (eqb-true _ _ (b .0)) 0 (omega arith), c .before .before .before .pre .1 (eqb-true _ _ (b .1)) 0 (omega arith))
 
 difference-requires-2 : tie.Need-difference-requires-2
 unfolding valueIn
 difference-requires-2 c κs =
     let b = and-e _ _ (c .before .before .if1 .taken) in
-    (c .before .before .before .before .before .pre .0 (b .0) 1 (omega arith), c .before .before .before .before .before .pre .1 (b .1) 1 (omega arith))
+    (c .before .before .before .before .before .pre .0 (eqb-true _ _ (b .0)) 1 (omega arith), c .before .before .before .before .before .pre .1 (eqb-true _ _ (b .1)) 1 (omega arith))
 
 difference-requires-3 : tie.Need-difference-requires-3
 unfolding valueIn
 difference-requires-3 c κs =
     let b = and-e _ _ (c .before .before .before .before .if1 .taken) in
-    (c .before .before .before .before .before .before .before .pre .0 (b .0) 2 (omega arith), c .before .before .before .before .before .before .before .pre .1 (b .1) 2 (omega arith))
+    (c .before .before .before .before .before .before .before .pre .0 (eqb-true _ _ (b .0)) 2 (omega arith), c .before .before .before .before .before .before .before .pre .1 (eqb-true _ _ (b .1)) 2 (omega arith))
 
 difference-requires-4 : tie.Need-difference-requires-4
 unfolding valueIn
 difference-requires-4 c κs =
     let b = and-e _ _ (c .before .before .before .before .before .before .if1 .taken) in
-    (c .before .before .before .before .before .before .before .before .before .pre .0 (b .0) 3 (omega arith), c .before .before .before .before .before .before .before .before .before .pre .1 (b .1) 3 (omega arith))
+    (c .before .before .before .before .before .before .before .before .before .pre .0 (eqb-true _ _ (b .0)) 3 (omega arith), c .before .before .before .before .before .before .before .before .before .pre .1 (eqb-true _ _ (b .1)) 3 (omega arith))
 
 returns : tie.Need-returns
 unfolding valueIn oneOf
 returns c =
     let b = and-e _ _ (c .before .before .before .before .before .before .before .before .before .if1 .taken) in
     λ e. (
-      b .0,
-      b .1,
+      eqb-true _ _ (b .0),
+      eqb-true _ _ (b .1),
       each _
           (joined _-ℤ_ _ _ (c .gathered .ensures e 0 (omega arith)) (c .before .before .before .before .before .before .before .amount-of .ensures) (c .before .before .before .before .before .before .before .before .difference .ensures))
           (joined _-ℤ_ _ _ (c .gathered .ensures e 1 (omega arith)) (c .before .before .before .before .before .amount-of2 .ensures) (c .before .before .before .before .before .before .difference2 .ensures))

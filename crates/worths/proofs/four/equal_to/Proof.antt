@@ -1,4 +1,5 @@
 use borrow.Author.Needs.{needs}
+use borrow.Author.Tests.{eqb-true}
 use Rattle.integers.specs.Equal.{eqZ}
 use Rattle.language.proofs.Truth.{and-e}
 use Rattle.worths.proofs.FourLaws.{tested}
@@ -9,7 +10,7 @@ returns : tie.Need-returns
 returns c =
     λ e.
     let b = and-e _ _ e in
-    (b .0, b .1, λ k l. tested eqZ _ _ (c .equal .ensures k l))
+    (eqb-true _ _ (b .0), eqb-true _ _ (b .1), λ k l. tested eqZ _ _ (c .equal .ensures k l))
 
 pub equal-to-spec : {M : Type 1} → statement M
 equal-to-spec =

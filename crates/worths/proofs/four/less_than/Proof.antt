@@ -1,4 +1,5 @@
 use borrow.Author.Needs.{needs}
+use borrow.Author.Tests.{eqb-true}
 use lib.Signed.{ltZ}
 use Rattle.language.proofs.Truth.{and-e}
 use Rattle.worths.proofs.FourLaws.{tested}
@@ -9,7 +10,7 @@ returns : tie.Need-returns
 returns c =
     λ e.
     let b = and-e _ _ e in
-    (b .0, b .1, λ k l. tested ltZ _ _ (c .less .ensures k l))
+    (eqb-true _ _ (b .0), eqb-true _ _ (b .1), λ k l. tested ltZ _ _ (c .less .ensures k l))
 
 pub less-than-spec : {M : Type 1} → statement M
 less-than-spec =
