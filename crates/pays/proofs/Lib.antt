@@ -7,3 +7,4 @@ pub mod Pennies
 pub mod PlacedPays
 pub mod PlanNodes
 pub mod PlanParts
+pub mod WaitsUntil

@@ -1,14 +1,15 @@
 -- What each letter makes of its parts' payments.
-use Prim.Native.Nat.{_+_, ℕ}
+use Prim.Native.Nat.{_+_, _<_, ℕ}
 use lib.Dec.{eqb}
 use lib.IntN.{_*ℤ_, _+ℤ_, pos, ℤ}
 use mathlib.Core.Bool.{Bool, cond}
 use mathlib.Core.List.{List}
-use mathlib.Core.Path.{_∙_, _≡_, ap, ap₂, sym}
+use mathlib.Core.Path.{_∙_, _≡_, ap, ap₂, refl, subst, sym}
 use Rattle.amounts.specs.Flat.{flat}
 use Rattle.amounts.specs.Waits.{waitOf}
 use Rattle.amounts.specs.declared.wait.Wait.the-variants.{Held, Missed}
 use Rattle.integers.specs.declared.Month.{Month}
+use Rattle.language.proofs.Payments.Spans.{pays-before}
 use Rattle.language.specs.Limits.{maxNodes}
 use Rattle.language.specs.Payments.Amounts.{holds, value}
 use Rattle.language.specs.Payments.Pays.{Sign, Tried, hit, miss, pays, started, tried}
@@ -18,6 +19,7 @@ use Rattle.nodes.specs.declared.PlanLetter.{PlanLetter}
 use Rattle.nodes.specs.declared.PlanLetter.the-variants as letter
 use Rattle.pays.proofs.PlanNodes.{PlanNode, planOf}
 use Rattle.pays.proofs.PlanParts.{held-is, missed-is, paid}
+use Rattle.pays.specs.Until.{endOf}
 
 -- what the node's plan pays
 module _ (values nodes : List ℤ) (sg : Sign) (r m left at : ℕ) where
@@ -75,3 +77,11 @@ module _ {values nodes : List ℤ} {sg : Sign} {r m left at : ℕ} (n : PlanNode
     pub missed-arm : Missed k ≡ waitOf (tried test (natOf d) r) → {p : ℕ} → p ≡ linkAt nodes at 4
         → {x : ℤ} → x ≡ paid values nodes sg m left p (natOf (k .0)) → x ≡ whole values nodes sg r m left at
     missed-arm e ep ex = ex ∙ ap (λ p. paid values nodes sg m left p (natOf (k .0))) ep ∙ sym (started-arm (miss (natOf (k .0))) (missed-is n ed k e))
+
+  -- the wait ends after the month
+  pub after-arm : {d : ℤ} → d ≡ pos (natOf (slotAt nodes at 1)) → m < endOf (tried test (natOf d) r) → pos 0 ≡ whole values nodes sg r m left at
+  after-arm {d} ed l = go (tried test (natOf (slotAt nodes at 1)) r) refl (subst (λ n. m < endOf (tried test n r)) (ap natOf ed) l)
+    where
+      go : (t : Tried) → tried test (natOf (slotAt nodes at 1)) r ≡ t → m < endOf t → pos 0 ≡ whole values nodes sg r m left at
+      go (hit k) e h = sym (started-arm (hit k) e ∙ pays-before (flat values) sg _ k m h)
+      go (miss k) e h = sym (started-arm (miss k) e ∙ pays-before (flat values) sg _ k m h)

@@ -9,15 +9,15 @@ ghost use Rattle.nodes.specs.Stands.{PlanStands};
 ghost use Rattle.nodes.specs.Table.{natOf};
 ghost use Rattle.pays.specs.FinePlan.{FinePlan};
 ghost use Rattle.pays.specs.Parties.{PairIn};
-use amounts::wait;
-use amounts::wait::Wait;
 use integers::Month;
 use integers::Pence;
 use nodes::PlanLetter;
+use until::Until;
 
 pub mod due;
 pub mod rows;
 pub mod transfer;
+pub mod until;
 
 // Payments from p to q count, and those from q to p against them.
 pub struct Pair {
@@ -74,9 +74,9 @@ pub fn plan_pays(
         }
         PlanLetter::Within => {
             let d = rows::delay(nodes, at);
-            let w = wait::wait_for(nodes, values, root, d, at + 1, 512);
+            let w = until::wait_until(nodes, values, root, month, d, at + 1);
             match w {
-                Wait::Held(k) => {
+                Until::Held(k) => {
                     plan_pays(
                         nodes,
                         values,
@@ -87,7 +87,7 @@ pub fn plan_pays(
                         left - 1,
                     )
                 }
-                Wait::Missed(k) => {
+                Until::Missed(k) => {
                     plan_pays(
                         nodes,
                         values,
@@ -98,6 +98,7 @@ pub fn plan_pays(
                         left - 1,
                     )
                 }
+                Until::After => Pence(0),
             }
         }
         PlanLetter::NoPlan => Pence(0),

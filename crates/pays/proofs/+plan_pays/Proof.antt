@@ -1,4 +1,5 @@
-use mathlib.Core.Path.{_∙_, refl, sym}
+use mathlib.Core.Path.{_∙_, refl, sym, subst}
+use Rattle.pays.specs.Until.{UntilIs}
 use borrow.Author.Needs.{needs}
 use native.Mathlib.Omega.{arith}
 use Rattle.pays.proofs.PayArms as arms
@@ -11,7 +12,7 @@ use Rattle.pays.proofs.plan_pays.Reads as plan-pays
 use Rattle.pays.proofs.plan_pays.Kinds as plan-pays-kinds
 use Rattle.pays.proofs.+plan_pays.Lts-plan_pays as plan-pays-lts
 use Rattle.amounts.proofs.amount_value.Reads as amount-value-reads
-use Rattle.amounts.proofs.wait.wait_for.Reads as wait-for-reads
+use Rattle.pays.proofs.until.wait_until.Reads as wait-until-reads
 use Rattle.integers.proofs.later.Reads as later-reads
 use Rattle.integers.proofs.plus.Reads as plus-reads
 use Rattle.integers.proofs.times.Reads as times-reads
@@ -32,7 +33,7 @@ abbrev plan-pays-below : ℕ → In 2 plan-pays-kinds.ps
 plan-pays-below t = and 2 plan-pays-kinds.ps (falls 2 plan-pays-kinds.ps _<_ μ-plan-pays t) plan-pays.Pre
 
 abbrev plan-pays-calls : ℕ → plan-pays-lts.Claims
-plan-pays-calls t = (letter-reads.Asked, letter-reads.Learnt, transfer-reads.Asked, transfer-reads.Learnt, amount-value-reads.Asked, amount-value-reads.Learnt, link-reads.Asked, link-reads.Learnt, plan-pays-below t, plan-pays.Post, times-reads.Asked, times-reads.Learnt, delay-reads.Asked, delay-reads.Learnt, later-reads.Asked, later-reads.Learnt, plus-reads.Asked, plus-reads.Learnt, wait-for-reads.Asked, wait-for-reads.Learnt)
+plan-pays-calls t = (letter-reads.Asked, letter-reads.Learnt, transfer-reads.Asked, transfer-reads.Learnt, amount-value-reads.Asked, amount-value-reads.Learnt, link-reads.Asked, link-reads.Learnt, plan-pays-below t, plan-pays.Post, times-reads.Asked, times-reads.Learnt, delay-reads.Asked, delay-reads.Learnt, later-reads.Asked, later-reads.Learnt, plus-reads.Asked, plus-reads.Learnt, wait-until-reads.Asked, wait-until-reads.Learnt)
 
 plan-pays-letter-requires : (t : ℕ) → plan-pays-lts.Need-letter-requires (plan-pays-calls t) (plan-pays-at t) plan-pays.Post
 plan-pays-letter-requires t c κs =
@@ -178,19 +179,20 @@ plan-pays-delay-requires-2 t c κs =
     let h = c .before .before .before .pre .1 in
     plan-inside _ _ _ (h .3)
 
-plan-pays-add-wait-for : (t : ℕ) → plan-pays-lts.Need-add-wait-for (plan-pays-calls t) (plan-pays-at t) plan-pays.Post
-plan-pays-add-wait-for t c =
+plan-pays-add-wait-until : (t : ℕ) → plan-pays-lts.Need-add-wait-until (plan-pays-calls t) (plan-pays-at t) plan-pays.Post
+plan-pays-add-wait-until t c =
     let h = c .before .before .before .before .pre .1 in
     let l = c .before .before .before .letter .ensures in
     let n = plan-node _ _ _ _ _ _ _ (h .3) (h .4) l (c .before .enum-told6 .given .1) in
     record { fits = omega (arith, n .inside) }
 
-plan-pays-wait-for-requires : (t : ℕ) → plan-pays-lts.Need-wait-for-requires (plan-pays-calls t) (plan-pays-at t) plan-pays.Post
-plan-pays-wait-for-requires t c κs =
+plan-pays-wait-until-requires : (t : ℕ) → plan-pays-lts.Need-wait-until-requires (plan-pays-calls t) (plan-pays-at t) plan-pays.Post
+plan-pays-wait-until-requires t c κs =
     let h = c .before .before .before .before .pre .1 in
     let l = c .before .before .before .letter .ensures in
     let n = plan-node _ _ _ _ _ _ _ (h .3) (h .4) l (c .before .enum-told6 .given .1) in
-    parts.within-test n (h .0) refl (c .delay2 .ensures)
+    let q = parts.within-test n (h .0) refl (c .delay2 .ensures) in
+    (q .0, h .1, q .1, q .2)
 
 plan-pays-link-requires-3 : (t : ℕ) → plan-pays-lts.Need-link-requires-3 (plan-pays-calls t) (plan-pays-at t) plan-pays.Post
 plan-pays-link-requires-3 t c κs =
@@ -211,7 +213,7 @@ plan-pays-plan-pays-requires-5 t c κs =
     let h = c .before .before .before .before .before .before .before .before .before .pre .1 in
     let l = c .before .before .before .before .before .before .before .before .letter .ensures in
     let n = plan-node _ _ _ _ _ _ _ (h .3) (h .4) l (c .before .before .before .before .before .before .enum-told6 .given .1) in
-    let e = sym (c .before .before .w .given .1) ∙ c .before .before .before .before .wait-for .ensures in
+    let e = subst (UntilIs _ _ _ _) (c .before .before .w .given .1) (c .before .before .before .before .wait-until .ensures) in
     let w = parts.held-walks n (c .before .before .before .before .before .delay2 .ensures) _ e (c .link3 .ensures) in
     (omega (arith, n .some), (w .0, h .1, h .2, w .1 .0, w .1 .1))
 
@@ -234,7 +236,7 @@ plan-pays-plan-pays-requires-6 t c κs =
     let h = c .before .before .before .before .before .before .before .before .before .pre .1 in
     let l = c .before .before .before .before .before .before .before .before .letter .ensures in
     let n = plan-node _ _ _ _ _ _ _ (h .3) (h .4) l (c .before .before .before .before .before .before .enum-told6 .given .1) in
-    let e = sym (c .before .before .w2 .given .1) ∙ c .before .before .before .before .wait-for .ensures in
+    let e = subst (UntilIs _ _ _ _) (c .before .before .w2 .given .1) (c .before .before .before .before .wait-until .ensures) in
     let w = parts.missed-walks n (c .before .before .before .before .before .delay2 .ensures) _ e (c .link4 .ensures) in
     (omega (arith, n .some), (w .0, h .1, h .2, w .1 .0, w .1 .1))
 
@@ -278,7 +280,7 @@ plan-pays-returns-6 t c =
     let h = c .before .before .before .before .before .before .before .before .before .before .pre .1 in
     let l = c .before .before .before .before .before .before .before .before .before .letter .ensures in
     let n = plan-node _ _ _ _ _ _ _ (h .3) (h .4) l (c .before .before .before .before .before .before .before .enum-told6 .given .1) in
-    let e = sym (c .before .before .before .w .given .1) ∙ c .before .before .before .before .before .wait-for .ensures in
+    let e = subst (UntilIs _ _ _ _) (c .before .before .before .w .given .1) (c .before .before .before .before .before .wait-until .ensures) in
     arms.held-arm n (c .before .before .before .before .before .before .delay2 .ensures) _ e (c .before .link3 .ensures) (c .plan-pays5 .ensures)
 
 plan-pays-returns-7 : (t : ℕ) → plan-pays-lts.Need-returns-7 (plan-pays-calls t) (plan-pays-at t) plan-pays.Post
@@ -286,14 +288,22 @@ plan-pays-returns-7 t c =
     let h = c .before .before .before .before .before .before .before .before .before .before .pre .1 in
     let l = c .before .before .before .before .before .before .before .before .before .letter .ensures in
     let n = plan-node _ _ _ _ _ _ _ (h .3) (h .4) l (c .before .before .before .before .before .before .before .enum-told6 .given .1) in
-    let e = sym (c .before .before .before .w2 .given .1) ∙ c .before .before .before .before .before .wait-for .ensures in
+    let e = subst (UntilIs _ _ _ _) (c .before .before .before .w2 .given .1) (c .before .before .before .before .before .wait-until .ensures) in
     arms.missed-arm n (c .before .before .before .before .before .before .delay2 .ensures) _ e (c .before .link4 .ensures) (c .plan-pays6 .ensures)
 
 plan-pays-returns-8 : (t : ℕ) → plan-pays-lts.Need-returns-8 (plan-pays-calls t) (plan-pays-at t) plan-pays.Post
 plan-pays-returns-8 t c =
+    let h = c .before .before .before .before .before .before .before .pre .1 in
+    let l = c .before .before .before .before .before .before .letter .ensures in
+    let n = plan-node _ _ _ _ _ _ _ (h .3) (h .4) l (c .before .before .before .before .enum-told6 .given .1) in
+    let e = subst (UntilIs _ _ _ _) (c .enum-told7 .given .1) (c .before .before .wait-until .ensures) in
+    arms.after-arm n (c .before .before .before .delay2 .ensures) e
+
+plan-pays-returns-9 : (t : ℕ) → plan-pays-lts.Need-returns-9 (plan-pays-calls t) (plan-pays-at t) plan-pays.Post
+plan-pays-returns-9 t c =
     let h = c .before .before .before .pre .1 in
     let l = c .before .before .letter .ensures in
-    let n = plan-node _ _ _ _ _ _ _ (h .3) (h .4) l (c .enum-told7 .given .1) in
+    let n = plan-node _ _ _ _ _ _ _ (h .3) (h .4) l (c .enum-told8 .given .1) in
     arms.no-plan-arm n
 
 plan-pays-part : {M : Type 1} (t : ℕ) → plan-pays-lts.Closed (plan-pays-calls t) (plan-pays-at t) plan-pays.Post M
@@ -326,8 +336,8 @@ plan-pays-part t =
     (plan-pays-plus-requires t)
     (λ c. search needs)
     (plan-pays-delay-requires-2 t)
-    (plan-pays-add-wait-for t)
-    (plan-pays-wait-for-requires t)
+    (plan-pays-add-wait-until t)
+    (plan-pays-wait-until-requires t)
     (λ c. search needs)
     (plan-pays-link-requires-3 t)
     (plan-pays-sub-plan-pays-5 t)
@@ -337,6 +347,7 @@ plan-pays-part t =
     (plan-pays-sub-plan-pays-6 t)
     (plan-pays-plan-pays-requires-6 t)
     (λ c. search needs)
+    (λ c. search needs)
     (plan-pays-returns t)
     (plan-pays-returns-2 t)
     (plan-pays-returns-3 t)
@@ -345,6 +356,7 @@ plan-pays-part t =
     (plan-pays-returns-6 t)
     (plan-pays-returns-7 t)
     (plan-pays-returns-8 t)
+    (plan-pays-returns-9 t)
 
 pub +plan-pays-spec : {M : Type 1} → statement M
 +plan-pays-spec = close μ-plan-pays plan-pays-part
