@@ -16,6 +16,7 @@ use Rattle.measures.specs.Magnitudes.{InBounds, Kept, boundIn, isWithin,
 use Rattle.measures.specs.Ready.{AmountReady, TestReady}
 use Rattle.measures.specs.declared.limit.Measured.the-variants.{Beyond, Within}
 use Rattle.measures.specs.declared.limit.Measured.{Measured}
+use Rattle.nodes.proofs.Signed.{key}
 use Rattle.nodes.specs.Found.{amountAt, offsetOf, testAt}
 use Rattle.nodes.specs.Letters.{amountLetter, testLetter}
 use Rattle.nodes.specs.Table.{linkAt, natOf, slotAt}
@@ -33,7 +34,7 @@ use mathlib.Core.List.{List, [], _∷_}
 use mathlib.Core.Path.{_∙_, _≡_, ap₂, refl}
 use mir.Facts.{toZ-ofZ}
 use mir.Syntax.{w64}
-use mir.Val.{SFits}
+use mir.Val.{SFits, ofZ}
 use native.Mathlib.Omega.{arith}
 
 -- ---- bounds
@@ -52,6 +53,17 @@ bound-reads bounds l h f = toZ-ofZ f ∙ bound-at bounds (h .within) l .0
 
 pub bound-absent : (bounds : List ℤ) (l : ℕ) → length bounds ≤ l → pos 0 ≡ pos (boundIn bounds l)
 bound-absent bounds l h = rw (List·getD-eq-default bounds (pos 0) h) refl
+
+-- ---- the two letters that an operand answers by itself
+
+module _ {s x : ℤ} (f : SFits w64 s) (e : s ≡ x) where
+  pub number-key : ofZ w64 s ≡ 78 → letter.Number ≡ amountLetter x
+  unfolding amountLetter
+  number-key k = rw (← e, key f k) refl
+
+  pub index-key : ofZ w64 s ≡ 79 → letter.Index ≡ amountLetter x
+  unfolding amountLetter
+  index-key k = rw (← e, key f k) refl
 
 -- ---- where an amount is small, its magnitude is within the limit
 

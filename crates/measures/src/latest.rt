@@ -1,8 +1,8 @@
 // The latest month that rows read, counted from the node above them.
 ghost use mathlib.Core.Path.{_≡_};
-ghost use Prim.Native.Nat.{_-_, _≤_, _<_};
+ghost use Prim.Native.Nat.{_-_, _≤_};
 ghost use Rattle.language.specs.Rules.Measures.{Latest, laterOf};
-ghost use Rattle.measures.specs.Rows.{rowLatest, rowsLatest};
+ghost use Rattle.measures.specs.Rows.{rowsLatest};
 ghost use Rattle.measures.specs.Timing.{latestRead};
 use crate::node;
 use integers::Month;
@@ -27,16 +27,6 @@ fn later_of(a: LatestRead, b: LatestRead) -> LatestRead
     a
 }
 
-fn row_latest(nodes: &[i64; 2560], at: usize) -> LatestRead
-    requires { ⌜ at < 512 ⌝ }
-    ensures { λ r. ⌜ r ≡ latestRead (rowLatest (now (nodes .entry)) at) ⌝ }
-{
-    if node::is_index(nodes, at) {
-        return LatestRead::AtMost(node::offset(nodes, at));
-    }
-    LatestRead::NoMonth
-}
-
 pub fn rows_latest(nodes: &[i64; 2560], from: usize, to: usize) -> LatestRead
     requires { ⌜ (from ≤ to) × (to ≤ 512) ⌝ }
     ensures { λ r. ⌜ r ≡ latestRead (rowsLatest (now (nodes .entry)) (to - from) from) ⌝ }
@@ -44,7 +34,9 @@ pub fn rows_latest(nodes: &[i64; 2560], from: usize, to: usize) -> LatestRead
     let mut latest = LatestRead::NoMonth;
     let mut at = from;
     while at < to {
-        latest = later_of(latest, row_latest(nodes, at));
+        if node::is_index(nodes, at) {
+            latest = later_of(latest, LatestRead::AtMost(node::offset(nodes, at)));
+        }
         at += 1;
     }
     latest

@@ -92,6 +92,19 @@ pub fn test_small(nodes: &[i64; 2560], at: usize, left: usize, bounds: &[i64]) -
     }
 }
 
+// The magnitude of an amount: a number or an index without a call.
+fn operand(nodes: &[i64; 2560], at: usize, left: usize, bounds: &[i64]) -> Measured
+    requires { ⌜ AmountReady left (now nodes) at × InBounds (now bounds) ⌝ }
+    ensures { λ r. ⌜ r ≡ measuredAmount (boundIn (now (bounds .entry))) (amountAt offsetOf left (now (nodes .entry)) at) ⌝ }
+{
+    let x = nodes::slot(nodes, at, 0);
+    match x {
+        78 => Measured::Within(distance(nodes, at)),
+        79 => Measured::Within(bound_of(bounds, node::label(nodes, at))),
+        _ => amount_magnitude(nodes, at, left, bounds),
+    }
+}
+
 // The two amounts below a node.
 fn two_amounts(nodes: &[i64; 2560], at: usize, left: usize, bounds: &[i64]) -> Two
     requires { ⌜ AmountsReady left (now nodes) at × InBounds (now bounds) ⌝ }
@@ -99,8 +112,8 @@ fn two_amounts(nodes: &[i64; 2560], at: usize, left: usize, bounds: &[i64]) -> T
         (r .first ≡ measuredAmount (boundIn (now (bounds .entry))) (amountAt offsetOf left (now (nodes .entry)) (at + 1))) ×
         (r .second ≡ measuredAmount (boundIn (now (bounds .entry))) (amountAt offsetOf left (now (nodes .entry)) (linkAt (now (nodes .entry)) at 3))) ⌝ }
 {
-    let x = amount_magnitude(nodes, at + 1, left, bounds);
-    let y = amount_magnitude(nodes, nodes::link(nodes, at, 3), left, bounds);
+    let x = operand(nodes, at + 1, left, bounds);
+    let y = operand(nodes, nodes::link(nodes, at, 3), left, bounds);
     Two {
         first: x,
         second: y,

@@ -11,7 +11,7 @@ use mathlib.Core.Option.{Option, none, some}
 use mathlib.Core.Path.{_∙_, _≡_, ap, refl, sym}
 use mir.Syntax.{w64}
 use mir.Val.{SFits, ofZ, toZ}
-use mir.ValLaws.{toZ-ofZ}
+use mir.ValLaws.{toZ-ofZ, toZ-pos}
 use native.Mathlib.Omega.{arith}
 use Rattle.language.specs.Text.Classes.{Field, aDelay, aNumber, asNumber, fieldOf, ranged, readSetting}
 use Rattle.language.specs.Text.Letters.{Class, delay, divisor, figure, fromNode, label, party}
@@ -44,6 +44,13 @@ ge-le (negsuc a) (negsuc b) e = le-leb a b (ltb-false b a e)
 pub test-signed : (v w : ℤ) (t : Bool) → SFits w64 v → SFits w64 w → ltZ (toZ w64 (ofZ w64 v)) (toZ w64 (ofZ w64 w)) ≡ t → ltZ v w ≡ t
 test-signed v w t p q e = sym (ap (λ (z : ℤ). ltZ z (toZ w64 (ofZ w64 w))) (toZ-ofZ w64 v p) ∙ ap (λ (z : ℤ). ltZ v z) (toZ-ofZ w64 w q)) ∙ e
 
+-- the same where one of them is a digit
+pub test-low : (d : ℕ) (w : ℤ) (t : Bool) → d ≤ 9 → SFits w64 w → ltZ (toZ w64 d) (toZ w64 (ofZ w64 w)) ≡ t → ltZ (pos d) w ≡ t
+test-low d w t h q e = sym (ap (λ (z : ℤ). ltZ z (toZ w64 (ofZ w64 w))) (toZ-pos w64 d (omega arith)) ∙ ap (λ (z : ℤ). ltZ (pos d) z) (toZ-ofZ w64 w q)) ∙ e
+
+pub test-high : (d : ℕ) (w : ℤ) (t : Bool) → d ≤ 9 → SFits w64 w → ltZ (toZ w64 (ofZ w64 w)) (toZ w64 d) ≡ t → ltZ w (pos d) ≡ t
+test-high d w t h q e = sym (ap (λ (z : ℤ). ltZ (toZ w64 (ofZ w64 w)) z) (toZ-pos w64 d (omega arith)) ∙ ap (λ (z : ℤ). ltZ z (pos d)) (toZ-ofZ w64 w q)) ∙ e
+
 pub small-fits : (z : ℤ) → natAbs z ≤ 9000000000000 → SFits w64 z
 small-fits (pos n) h = record { sfits = omega arith }
 small-fits (negsuc n) h = record { sfits = omega arith }
@@ -69,6 +76,10 @@ outside (negsuc m) hi (negsuc n) p q l = rw (lt-leb n m (omega arith)) refl
 pub ranged-beyond : (r : Range) → Limited r → (o : Option ℤ) → BeyondZ o → ranged (r .low) (r .high) o ≡ none
 ranged-beyond r k none h = refl
 ranged-beyond r k (some z) h = rw (outside (r .low) (r .high) z (k .low) (k .high) h) refl
+
+figure-in : (z : ℤ) → natAbs z ≤ 9000000000000 → between (negℤ (pos 9000000000000)) (pos 9000000000000) z ≡ true
+figure-in (pos n) h = le-leb n 9000000000000 h
+figure-in (negsuc n) h = rw (le-leb n 8999999999999 (omega arith)) refl
 
 -- ---- by class
 
@@ -150,3 +161,12 @@ module _ (f : List ℕ) where
   plain-fails c n =
       by-class Fails c (fails figure _ _ refl) (λ q e. rw (no-setting f (n q), e) refl)
       (fails label _ _ refl) (fails fromNode _ _ refl) (fails divisor _ _ refl) (fails party _ _ refl)
+
+  -- every number that is read is a figure, and nothing else is one
+  pub figure-reads : (z : ℤ) → natAbs z ≤ 9000000000000 → readNumber f ≡ some z → Held figure f (z ∷ [])
+  unfolding fieldOf
+  figure-reads z h e = held figure z (negℤ (pos 9000000000000)) (pos 9000000000000) refl (rw (e, figure-in z h) refl)
+
+  pub figure-fails : BeyondZ (readNumber f) → fieldOf figure f ≡ none
+  unfolding rangeOf fieldOf
+  figure-fails h = fails figure _ _ refl (ranged-beyond (rangeOf 1) (limited 1) (readNumber f) h)

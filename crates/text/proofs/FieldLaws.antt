@@ -2,22 +2,25 @@
 use Prim.Native.Nat.{_+_, _-_, _<_, _≤_, ℕ}
 use borrow.Author.Tests.{eq-eqb, ne-eqb}
 use lib.IntN.{pos, ℤ}
-use lib.ListN.{drop, length}
+use lib.ListN.{drop, getD, length}
 use mathlib.Core.List.{List, [], _∷_}
 use mathlib.Core.Option.{none, some}
-use mathlib.Core.Path.{_∙_, _≡_, ap, refl}
+use mathlib.Core.Path.{_∙_, _≡_, ap, refl, sym}
 use native.Mathlib.Omega.{arith}
 use Rattle.language.specs.Answer.{got, refused}
 use Rattle.language.specs.Text.Classes.{Field, fieldOf}
 use Rattle.language.specs.Text.Letters.{Class, month}
 use Rattle.language.specs.Text.Reader.{readFields}
 use Rattle.nodes.specs.Rows.{slotsOf}
-use Rattle.text.specs.Classes.{classOf}
-use Rattle.text.specs.Fields.{Four, Malformed, MonthIs, PairIs, ReadUpTo, Taken, Two, behind, classesOfThree, classesOfTwo, firstAs}
+use Rattle.text.specs.Classes.{classOf, rangeOf}
+use Rattle.text.specs.Fields.{DigitIs, Four, Malformed, MonthIs, PairIs, ReadUpTo, Taken, TakenIs, Two, behind, classesOfThree, classesOfTwo, firstAs}
 use Rattle.text.specs.Positions.{fieldsFrom, upTo}
+use Rattle.text.specs.declared.fields.Taking.{Taking}
+use Rattle.text.specs.declared.fields.Taking.the-variants.{Value, Wrong}
 use Rattle.text.specs.declared.slots.Taking2.{Taking2}
 use Rattle.text.specs.declared.slots.Taking2.the-variants.{Values, Wrongs}
-use Rattle.text.proofs.ClassLaws.{Held}
+use Rattle.text.proofs.ClassLaws.{Held, plain-fails, plain-reads}
+use Rattle.text.proofs.NumberLaws.{number-digit}
 use Rattle.text.proofs.Positions.{first-field, from-behind, up-fits}
 
 -- ---- the field at a byte
@@ -37,6 +40,17 @@ module _ (k : Class) (text : List ℕ) (at : ℕ) where
 
   pub failed-behind : length text < at → firstAs k (fieldsFrom text at) ≡ none
   failed-behind h = ap (firstAs k) (from-behind text at h)
+
+-- a field of one digit
+pub digit-taken : (text : List ℕ) (at class b : ℕ) → at < length text → 48 ≤ b → b ≤ 57 → upTo 44 (drop at text) ≡ b ∷ []
+    → (r : Taking) → DigitIs (rangeOf class) (b - 48) (at + 2) r → TakenIs (classOf class) text at r
+digit-taken text at class b h l m e (Value z next) d =
+    let k : length (upTo 44 (drop at text)) ≡ 1 = ap length e in
+    taken-at (classOf class) text at (z ∷ []) next (omega arith) (omega (arith, d .ends))
+    (plain-reads _ class z (λ q p. omega (arith, sym (ap (λ (f : List ℕ). getD f 0 0) e) ∙ p)) (rw (number-digit _ b e l m) (d .is)))
+digit-taken text at class b h l m e Wrong d =
+    failed-at (classOf class) text at (omega arith)
+    (plain-fails _ class (λ q p. omega (arith, sym (ap (λ (f : List ℕ). getD f 0 0) e) ∙ p)) (rw (number-digit _ b e l m) d))
 
 -- ---- several fields
 
@@ -171,4 +185,29 @@ module _ (text : List ℕ) (at : ℕ) where
     second = rw (t .slot) (r .first);
     third = rw (t .slot) (r .second);
     fourth = rw (t .slot) (r .third);
+  })
+
+  -- ---- one field, and two that are no months
+
+  pub four-one : (k : Class) (a : ℤ) (next : ℕ) → Taken k text at (a ∷ []) next → (x : ℤ) → x ≡ a → Four (k ∷ []) text at x (pos 0) (pos 0) (pos 0) next
+  unfolding slotsOf
+  four-one k a next t x p = rw p (record {
+    values = t .field ∷ [];
+    all = read-more text at k [] _ next t [] next (read-none text next (t .within));
+    first = rw (t .slot) refl;
+    second = rw (t .slot) refl;
+    third = rw (t .slot) refl;
+    fourth = rw (t .slot) refl;
+  })
+
+  pub four-two : (k j : Class) (a b : ℤ) (next end : ℕ) → Taken k text at (a ∷ []) next → Taken j text next (b ∷ []) end
+      → (x y : ℤ) → x ≡ a → y ≡ b → Four (k ∷ j ∷ []) text at x y (pos 0) (pos 0) end
+  unfolding slotsOf
+  four-two k j a b next end t u x y p q = rw (p, q) (record {
+    values = t .field ∷ u .field ∷ [];
+    all = read-more text at k _ _ next t _ end (read-more text next j [] _ end u [] end (read-none text end (u .within)));
+    first = rw (t .slot) refl;
+    second = rw (t .slot, u .slot) refl;
+    third = rw (t .slot, u .slot) refl;
+    fourth = rw (t .slot, u .slot) refl;
   })

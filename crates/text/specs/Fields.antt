@@ -8,12 +8,13 @@ use mathlib.Core.List.{List, [], _∷_}
 use mathlib.Core.Option.{Option, none, some}
 use mathlib.Core.Path.{_≡_}
 use Rattle.language.specs.Answer.{got, refused}
-use Rattle.language.specs.Text.Classes.{Field, fieldOf}
+use Rattle.language.specs.Text.Classes.{Field, fieldOf, ranged}
 use Rattle.language.specs.Text.Letters.{Class, month}
 use Rattle.language.specs.Text.Reader.{readFields}
 use Rattle.nodes.specs.Rows.{fieldSlots, slotsOf}
 use Rattle.text.specs.Classes.{classOf}
 use Rattle.text.specs.Positions.{fieldsFrom}
+use Rattle.text.specs.declared.fields.Range.{Range}
 use Rattle.text.specs.declared.slots.Slots.{Slots}
 use Rattle.text.specs.declared.slots.Slots.the-variants.{Filled, Unfilled}
 use Rattle.text.specs.declared.fields.Taking.{Taking}
@@ -42,6 +43,15 @@ pub record Taken (c : Class) (text : List ℕ) (at : ℕ) (slots : List ℤ) (ne
 abbrev pub TakenIs : Class → List ℕ → ℕ → Taking → Type 0
 TakenIs c text at (Value z next) = Taken c text at (z ∷ []) next
 TakenIs c text at Wrong = firstAs c (fieldsFrom text at) ≡ none
+
+-- a digit as a number within a range, in front of byte next
+pub record Digit (range : Range) (d next : ℕ) (z : ℤ) (n : ℕ) : Type 0 where
+  pub is : ranged (range .low) (range .high) (some (pos d)) ≡ some z
+  pub ends : n ≡ next
+
+abbrev pub DigitIs : Range → ℕ → ℕ → Taking → Type 0
+DigitIs range d next (Value z n) = Digit range d next z n
+DigitIs range d next Wrong = ranged (range .low) (range .high) (some (pos d)) ≡ none
 
 abbrev pub MonthIs : List ℕ → ℕ → Taking2 → Type 0
 MonthIs text at (Values a b next) = Taken month text at (a ∷ b ∷ []) next

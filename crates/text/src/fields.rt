@@ -1,10 +1,12 @@
 // Fields by class: a number within the class's range, or a delay.
 ghost use mathlib.Core.Path.{_≡_};
+ghost use mathlib.Core.Bool.{true};
+ghost use mathlib.Core.List.{[]};
 ghost use Prim.Native.Nat.{_+_, _≤_, _<_};
 ghost use lib.ListN.{length, drop, getD};
 ghost use Rattle.text.specs.Positions.{upTo};
 ghost use Rattle.text.specs.Classes.{classOf, rangeOf, Limited, RangedIs};
-ghost use Rattle.text.specs.Fields.{TakenIs};
+ghost use Rattle.text.specs.Fields.{DigitIs, TakenIs};
 use crate::numbers::Number;
 use crate::numbers::read_number;
 use crate::settings::read_setting;
@@ -92,8 +94,8 @@ fn read_plain(text: &[u8], at: usize, class: u8) -> Taking
     }
 }
 
-// Any field but a month.
-pub fn read_field(text: &[u8], at: usize, class: u8) -> Taking
+// Any field but a month, of any length.
+fn read_longer(text: &[u8], at: usize, class: u8) -> Taking
     requires { ⌜ at ≤ length (now text) + 1 ⌝ }
     ensures { λ r. ⌜ TakenIs (classOf class) (now (text .entry)) at r ⌝ }
 {
@@ -108,4 +110,49 @@ pub fn read_field(text: &[u8], at: usize, class: u8) -> Taking
         }
     }
     read_plain(text, at, class)
+}
+
+// A digit as a number within a range.
+fn digit_in(range: Range, digit: u8, next: usize) -> Taking
+    requires { ⌜ (digit ≤ 9) × Limited range ⌝ }
+    ensures { λ r. ⌜ DigitIs range digit next r ⌝ }
+{
+    let value = digit as i64;
+    if value < range.low {
+        return Taking::Wrong;
+    }
+    if range.high < value {
+        return Taking::Wrong;
+    }
+    Taking::Value { value, next }
+}
+
+// Whether a field ends behind this byte.
+fn ends_behind(text: &[u8], at: usize) -> bool
+    requires { ⌜ at < length (now text) ⌝ }
+    ensures { λ r. ⌜ (r ≡ true → upTo 44 (drop (at + 1) (now (text .entry))) ≡ []) ⌝ }
+{
+    if text.len() - at == 1 {
+        return true;
+    }
+    text[at + 1] == b','
+}
+
+// Any field but a month. Most have one digit, so that is tried first.
+pub fn read_field(text: &[u8], at: usize, class: u8) -> Taking
+    requires { ⌜ at ≤ length (now text) + 1 ⌝ }
+    ensures { λ r. ⌜ TakenIs (classOf class) (now (text .entry)) at r ⌝ }
+{
+    if at < text.len() {
+        let c = text[at];
+        match c {
+            b'0'..=b'9' => {
+                if ends_behind(text, at) {
+                    return digit_in(range_of(class), c - 48, at + 2);
+                }
+            }
+            _ => {}
+        }
+    }
+    read_longer(text, at, class)
 }

@@ -1,8 +1,8 @@
 // The fields of a node as up to four numbers: a month takes two of them.
-ghost use mathlib.Core.List.{_∷_};
+ghost use mathlib.Core.List.{_∷_, []};
 ghost use Prim.Native.Nat.{_+_, _≤_};
 ghost use lib.ListN.{length};
-ghost use Rattle.language.specs.Text.Letters.{month};
+ghost use Rattle.language.specs.Text.Letters.{figure, month};
 ghost use Rattle.text.specs.Classes.{classOf};
 ghost use Rattle.text.specs.Fields.{MonthIs, PairIs, SlotsAre, classesOfTwo, classesOfThree};
 use crate::fields::MONTH;
@@ -12,6 +12,7 @@ use crate::fields::Taking;
 use crate::fields::read_field;
 use crate::fields::read_ranged;
 use crate::numbers::Number;
+use crate::numbers::read_number;
 use crate::settings::read_settings;
 
 pub enum Taking2 {
@@ -139,6 +140,44 @@ fn after_field(text: &[u8], at: usize, first: u8, second: u8, third: u8) -> Slot
     }
 }
 
+// The field of a node whose only one is a figure.
+pub fn read_figure(text: &[u8], at: usize) -> Slots
+    requires { ⌜ at ≤ length (now text) ⌝ }
+    ensures { λ r. ⌜ SlotsAre (figure ∷ []) (now (text .entry)) at r ⌝ }
+{
+    match read_number(text, at, b',') {
+        Number::Is { value: a, end } => Slots::Filled {
+            a,
+            b: 0,
+            c: 0,
+            d: 0,
+            next: end + 1,
+        },
+        Number::Bad => Slots::Unfilled,
+    }
+}
+
+// The fields of a node with two that are no months.
+pub fn read_two(text: &[u8], at: usize, first: u8, second: u8) -> Slots
+    requires { ⌜ at ≤ length (now text) + 1 ⌝ }
+    ensures { λ r. ⌜ SlotsAre (classOf first ∷ classOf second ∷ []) (now (text .entry)) at r ⌝ }
+{
+    match read_field(text, at, first) {
+        Taking::Value { value: a, next } => match read_field(text, next, second) {
+            Taking::Value { value: b, next: n } => Slots::Filled {
+                a,
+                b,
+                c: 0,
+                d: 0,
+                next: n,
+            },
+            Taking::Wrong => Slots::Unfilled,
+        },
+        Taking::Wrong => Slots::Unfilled,
+    }
+}
+
+// The fields of any node.
 pub fn read_fields(text: &[u8], at: usize, first: u8, second: u8, third: u8) -> Slots
     requires { ⌜ at ≤ length (now text) + 1 ⌝ }
     ensures { λ r. ⌜ SlotsAre (classesOfThree first second third) (now (text .entry)) at r ⌝ }

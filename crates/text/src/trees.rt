@@ -3,17 +3,25 @@ ghost use mathlib.Core.Path.{_≡_};
 ghost use mathlib.Core.List.{_∷_, []};
 ghost use Prim.Native.Nat.{_+_, _-_, _*_, _≤_, _<_};
 ghost use lib.IntN.{pos};
-ghost use lib.ListN.{length, drop};
+ghost use lib.ListN.{length, drop, getD};
 ghost use lib.Seq.{sets};
+ghost use Rattle.language.specs.Text.Letters.{planForm};
 ghost use Rattle.text.specs.Letters.{formOf, kindAt};
 ghost use Rattle.text.specs.Positions.{upTo};
-ghost use Rattle.text.specs.Trees.{SoleIs, OpenedIs, ReadIs, leafRow, overRow};
+ghost use Rattle.text.specs.Trees.{SoleIs, LeafIs, OpenedIs, ReadIs, leafOf, leafRow, overRow};
 use crate::Refusal;
+use crate::fields::FROM_NODE;
+use crate::fields::LABEL;
 use crate::fields::NONE;
+use crate::fields::PARTY;
+use crate::letters::AMOUNT;
+use crate::letters::ROOT;
 use crate::letters::TextForm;
 use crate::letters::shape_of;
 use crate::slots::Slots;
 use crate::slots::read_fields;
+use crate::slots::read_figure;
+use crate::slots::read_two;
 
 pub const MAX_DEPTH: usize = 32;
 
@@ -43,6 +51,12 @@ pub enum Opened {
     Closed(Refusal),
 }
 
+// A leaf of the kind that is asked for, or another node.
+pub enum Leaf {
+    Plain(Head),
+    Other,
+}
+
 // The byte behind what was read, and the number of nodes so far.
 pub enum Read {
     Done { next: usize, count: usize },
@@ -69,8 +83,74 @@ fn letter_at(text: &[u8], at: usize) -> Sole
     Sole::Other
 }
 
+fn leaf_of(letter: u8, slots: Slots) -> Leaf
+    ensures { λ r. ⌜ r ≡ leafOf letter slots ⌝ }
+{
+    match slots {
+        Slots::Filled { a, b, c, d, next } => Leaf::Plain(Head {
+            letter,
+            a,
+            b,
+            c,
+            d,
+            next,
+            kid1: NONE,
+            kid2: NONE,
+            kid3: NONE,
+        }),
+        Slots::Unfilled => Leaf::Other,
+    }
+}
+
+// An index or a transfer of a plan.
+fn plan_leaf(text: &[u8], at: usize, kind: u8) -> Leaf
+    requires { ⌜ (at + 2 ≤ length (now text)) × (getD (now text) (at + 1) 0 ≡ 44) ⌝ }
+    ensures { λ r. ⌜ LeafIs planForm (kindAt kind) (now (text .entry)) at r ⌝ }
+{
+    let letter = text[at];
+    match letter {
+        b'O' => {
+            if kind == AMOUNT {
+                return leaf_of(b'O', read_two(text, at + 2, LABEL, FROM_NODE));
+            }
+            Leaf::Other
+        }
+        b'T' => {
+            if kind == ROOT {
+                return leaf_of(b'T', read_two(text, at + 2, PARTY, PARTY));
+            }
+            Leaf::Other
+        }
+        _ => Leaf::Other,
+    }
+}
+
+// The commonest leaves: numbers, and indexes and transfers of plans.
+fn leaf_at(form: TextForm, text: &[u8], at: usize, kind: u8) -> Leaf
+    ensures { λ r. ⌜ LeafIs (formOf form) (kindAt kind) (now (text .entry)) at r ⌝ }
+{
+    if text.len() <= at {
+        return Leaf::Other;
+    }
+    if text.len() - at < 3 {
+        return Leaf::Other;
+    }
+    if text[at + 1] != b',' {
+        return Leaf::Other;
+    }
+    if text[at] == b'N' {
+        if kind == AMOUNT {
+            return leaf_of(b'N', read_figure(text, at + 2));
+        }
+    }
+    match form {
+        TextForm::Plan => plan_leaf(text, at, kind),
+        TextForm::Payoff => Leaf::Other,
+    }
+}
+
 // In this order: unknown letter, wrong kind, too many nodes, too deep, a field not of the form.
-fn open_node(form: TextForm, text: &[u8], at: usize, kind: u8, count: usize, left: usize) -> Opened
+fn open_any(form: TextForm, text: &[u8], at: usize, kind: u8, count: usize, left: usize) -> Opened
     requires { ⌜ (at ≤ length (now text) + 1) × (0 < kind) × (kind ≤ 3) ⌝ }
     ensures { λ r. ⌜ OpenedIs (formOf form) left (kindAt kind) (now (text .entry)) at count r ⌝ }
 {
@@ -124,6 +204,24 @@ fn open_node(form: TextForm, text: &[u8], at: usize, kind: u8, count: usize, lef
         }
         Sole::Other => Opened::Closed(Refusal::NotOfForm),
     }
+}
+
+// A node of any letter; the commonest leaves are tried first.
+fn open_node(form: TextForm, text: &[u8], at: usize, kind: u8, count: usize, left: usize) -> Opened
+    requires { ⌜ (at ≤ length (now text) + 1) × (0 < kind) × (kind ≤ 3) ⌝ }
+    ensures { λ r. ⌜ OpenedIs (formOf form) left (kindAt kind) (now (text .entry)) at count r ⌝ }
+{
+    match leaf_at(form, text, at, kind) {
+        Leaf::Plain(h) => {
+            if count < MAX_NODES {
+                if 0 < left {
+                    return Opened::Node(h);
+                }
+            }
+        }
+        Leaf::Other => {}
+    }
+    open_any(form, text, at, kind, count, left)
 }
 
 fn put_row(nodes: &mut [i64], i: usize, letter: u8, a: i64, b: i64, c: i64, d: i64)

@@ -1,49 +1,61 @@
-use Prim.Native.Nat.{_-_}
-use mathlib.Core.Logic.{⊎-elim}
-use mathlib.Core.Path.{ap, subst, sym}
+use Prim.Native.Nat.{_+_, _-_, ℕ}
+use lib.ListN.{getD}
+use mathlib.Core.List.{List, _∷_}
+use mathlib.Core.Path.{_∙_, ap, subst, sym}
 use native.Mathlib.Omega.{arith}
-use Rattle.text.specs.Classes.{classOf}
-use Rattle.language.specs.Text.Letters.{Class}
-use Rattle.text.specs.Fields.{TakenIs}
-use Rattle.text.proofs.FieldLaws.{failed-behind}
-use Rattle.text.proofs.Positions.{head-ne, head-none}
+use Rattle.text.specs.Classes.{Limited}
+use Rattle.text.specs.Fields.{DigitIs}
+use Rattle.text.specs.declared.fields.Range.{Range}
+use Rattle.text.proofs.ClassLaws.{limited}
+use Rattle.text.proofs.FieldLaws.{digit-taken}
+use Rattle.text.proofs.Positions.{up-more}
+use borrow.Author.Needs.{needs}
 use Rattle.text.proofs.fields.read_field.Statement.{statement}
 use Rattle.text.proofs.fields.read_field.Tie as tie
 
+shared-slice-read-c : tie.Need-shared-slice-read-c
+shared-slice-read-c c = search needs
+
+ends-behind-requires : tie.Need-ends-behind-requires
+ends-behind-requires c κs = search needs
+
+range-of-requires : tie.Need-range-of-requires
+range-of-requires c κs = search needs
+
+add-digit-in : tie.Need-add-digit-in
+add-digit-in c = search needs
+
+digit-in-requires : tie.Need-digit-in-requires
+digit-in-requires c κs = (
+  omega arith,
+  subst Limited (sym (c .range-of .ensures)) (limited (c .before .before .before .before .before .before .before .before .args
+      .class)),
+)
+
 returns : tie.Need-returns
-returns c = let a = c .before .before .args in failed-behind (classOf (a .class)) (a .text .now) (a .at) (c .if1 .taken)
+returns c =
+    let a = c .before .before .before .before .before .before .before .before .before .args in
+    let t = a .text .now in
+    digit-taken t (a .at) (a .class) (getD t (a .at) 0) (c .before .before .before .before .before .before .before .if1 .taken) (omega arith) (omega
+    arith) (up-more 44 t (a .at) (c .before .before .before .before .before .before .before .if1 .taken) (λ e. omega arith) (λ e. omega arith) ∙ ap
+    (λ (l : List ℕ). getD t (a .at) 0 ∷ l) (c .before .before .before .ends-behind .ensures (c .before .before .if4 .taken))) (c .digit-in .result)
+    (subst (λ (r : Range). DigitIs r (getD t (a .at) 0 - 48) (a .at + 2) (c .digit-in .result)) (c .before .range-of .ensures) (c .digit-in .ensures))
 
-shared-slice-read-if4 : tie.Need-shared-slice-read-if4
-shared-slice-read-if4 c = omega arith
-
-read-setting-requires : tie.Need-read-setting-requires
-read-setting-requires c κs = (omega arith, c .if4 .taken)
+read-longer-requires : tie.Need-read-longer-requires
+read-longer-requires c κs = search needs
 
 returns-2 : tie.Need-returns-2
-unfolding classOf
-returns-2 c =
-    let a = c .before .before .before .before .before .before .before .args in
-    subst (λ (k : Class). TakenIs k (a .text .now) (a .at) (c .read-setting .result)) (sym (ap classOf
-    (c .before .before .before .before .if2 .taken))) (c .read-setting .ensures)
-
-read-plain-requires : tie.Need-read-plain-requires
-read-plain-requires c κs =
-    let a = c .before .before .before .args in (
-      c .before .if1 .left,
-      ⊎-elim (λ t e. head-ne 44 (a .text .now) (a .at) 80 (t .1 .taken) (t .3 .left) (omega arith)) (⊎-elim (λ t e. head-none 44
-          (a .text .now) (a .at) 80 (t .1 .left) (omega arith)) (λ t e. absurd (t .left e))) (c .if2 .came),
-    )
-
-returns-3 : tie.Need-returns-3
-returns-3 c = c .read-plain .ensures
+returns-2 c = search needs
 
 pub read-field-spec : {M : Type 1} → statement M
 read-field-spec =
     tie.close
     (tie.spec
+    shared-slice-read-c
+    ends-behind-requires
+    range-of-requires
+    add-digit-in
+    digit-in-requires
     returns
-    shared-slice-read-if4
-    read-setting-requires
-    returns-2
-    read-plain-requires
-    returns-3)
+    read-longer-requires
+    returns-2)

@@ -5,16 +5,19 @@ use Rattle.measures.proofs.limit.both_within.Reads as both-within-reads
 use Rattle.measures.proofs.limit.greater_of.Reads as greater-of-reads
 use Rattle.measures.proofs.limit.product_of.Reads as product-of-reads
 use Rattle.measures.proofs.limit.sum_of.Reads as sum-of-reads
-use Rattle.measures.proofs.magnitude.+amount_magnitude+test_small+two_amounts+two_tests.Lts-amount_magnitude as amount-magnitude-lts
-use Rattle.measures.proofs.magnitude.+amount_magnitude+test_small+two_amounts+two_tests.Lts-test_small as test-small-lts
-use Rattle.measures.proofs.magnitude.+amount_magnitude+test_small+two_amounts+two_tests.Lts-two_amounts as two-amounts-lts
-use Rattle.measures.proofs.magnitude.+amount_magnitude+test_small+two_amounts+two_tests.Lts-two_tests as two-tests-lts
-use Rattle.measures.proofs.magnitude.+amount_magnitude+test_small+two_amounts+two_tests.Tie.{close}
-use Rattle.measures.proofs.magnitude.+amount_magnitude+test_small+two_amounts+two_tests.{statement}
+use Rattle.measures.proofs.magnitude.+amount_magnitude+operand+test_small+two_amounts+two_tests.Lts-amount_magnitude as amount-magnitude-lts
+use Rattle.measures.proofs.magnitude.+amount_magnitude+operand+test_small+two_amounts+two_tests.Lts-operand as operand-lts
+use Rattle.measures.proofs.magnitude.+amount_magnitude+operand+test_small+two_amounts+two_tests.Lts-test_small as test-small-lts
+use Rattle.measures.proofs.magnitude.+amount_magnitude+operand+test_small+two_amounts+two_tests.Lts-two_amounts as two-amounts-lts
+use Rattle.measures.proofs.magnitude.+amount_magnitude+operand+test_small+two_amounts+two_tests.Lts-two_tests as two-tests-lts
+use Rattle.measures.proofs.magnitude.+amount_magnitude+operand+test_small+two_amounts+two_tests.Tie.{close}
+use Rattle.measures.proofs.magnitude.+amount_magnitude+operand+test_small+two_amounts+two_tests.{statement}
 use Rattle.measures.proofs.magnitude.amount_magnitude.Kinds as amount-magnitude-kinds
 use Rattle.measures.proofs.magnitude.amount_magnitude.Reads as amount-magnitude
 use Rattle.measures.proofs.magnitude.bound_of.Reads as bound-of-reads
 use Rattle.measures.proofs.magnitude.distance.Reads as distance-reads
+use Rattle.measures.proofs.magnitude.operand.Kinds as operand-kinds
+use Rattle.measures.proofs.magnitude.operand.Reads as operand
 use Rattle.measures.proofs.magnitude.test_small.Kinds as test-small-kinds
 use Rattle.measures.proofs.magnitude.test_small.Reads as test-small
 use Rattle.measures.proofs.magnitude.two_amounts.Kinds as two-amounts-kinds
@@ -25,24 +28,30 @@ use Rattle.measures.proofs.node.amount_kind.Reads as amount-kind-reads
 use Rattle.measures.proofs.node.label.Reads as label-reads
 use Rattle.measures.proofs.node.test_kind.Reads as test-kind-reads
 use Rattle.nodes.proofs.link.Reads as link-reads
+use Rattle.nodes.proofs.slot.Reads as slot-reads
 use borrow.Author.Needs.{needs}
 use borrow.Fn.Kinds.{In}
 use borrow.Fn.PlainCycle.{Measures, and, falls, is}
 use mathlib.Core.Bool.{_&&_}
-use mathlib.Core.Path.{ap₂}
+use mathlib.Core.Path.{ap₂, refl}
+use mir.Syntax.{w64}
+use mir.Val.{SFits}
 use native.Mathlib.Omega.{arith}
 
 abbrev μ-amount-magnitude : Measures 2 amount-magnitude-kinds.ps ℕ
-μ-amount-magnitude κs a = 2 * a .1 .1 .0
+μ-amount-magnitude κs a = 3 * a .1 .1 .0
+
+abbrev μ-operand : Measures 2 operand-kinds.ps ℕ
+μ-operand κs a = 3 * a .1 .1 .0 + 1
 
 abbrev μ-test-small : Measures 2 test-small-kinds.ps ℕ
-μ-test-small κs a = 2 * a .1 .1 .0
+μ-test-small κs a = 3 * a .1 .1 .0
 
 abbrev μ-two-amounts : Measures 2 two-amounts-kinds.ps ℕ
-μ-two-amounts κs a = 2 * a .1 .1 .0 + 1
+μ-two-amounts κs a = 3 * a .1 .1 .0 + 2
 
 abbrev μ-two-tests : Measures 2 two-tests-kinds.ps ℕ
-μ-two-tests κs a = 2 * a .1 .1 .0 + 1
+μ-two-tests κs a = 3 * a .1 .1 .0 + 2
 
 abbrev amount-magnitude-at : ℕ → In 2 amount-magnitude-kinds.ps
 amount-magnitude-at t =
@@ -59,6 +68,12 @@ amount-magnitude-below t =
     amount-magnitude-kinds.ps
     (falls 2 amount-magnitude-kinds.ps _<_ μ-amount-magnitude t)
     amount-magnitude.Pre
+
+abbrev operand-at : ℕ → In 2 operand-kinds.ps
+operand-at t = and 2 operand-kinds.ps (is 2 operand-kinds.ps μ-operand t) operand.Pre
+
+abbrev operand-below : ℕ → In 2 operand-kinds.ps
+operand-below t = and 2 operand-kinds.ps (falls 2 operand-kinds.ps _<_ μ-operand t) operand.Pre
 
 abbrev test-small-at : ℕ → In 2 test-small-kinds.ps
 test-small-at t =
@@ -388,6 +403,69 @@ amount-magnitude-part t =
     (amount-magnitude-returns-8 t)
     (amount-magnitude-returns-9 t)
 
+abbrev operand-calls : ℕ → operand-lts.Claims
+operand-calls t = (
+  slot-reads.Asked,
+  slot-reads.Learnt,
+  distance-reads.Asked,
+  distance-reads.Learnt,
+  label-reads.Asked,
+  label-reads.Learnt,
+  bound-of-reads.Asked,
+  bound-of-reads.Learnt,
+  amount-magnitude-below t,
+  amount-magnitude.Post,
+)
+
+operand-slot-requires : (t : ℕ) → operand-lts.Need-slot-requires (operand-calls t) (operand-at t) operand.Post
+operand-slot-requires t c κs = (amounts.amount-room (c .pre .1 .0), omega arith)
+
+operand-distance-requires : (t : ℕ) → operand-lts.Need-distance-requires (operand-calls t) (operand-at t) operand.Post
+operand-distance-requires t c κs =
+    let h = c .before .before .pre .1 .0 in
+    let f : SFits w64 (c .before .slot .result) = search needs in
+    (amounts.amount-room h, record { small = amounts.number-ready h (laws.number-key f (c .before .slot .ensures) (c .match .keys1)) refl })
+
+operand-label-requires : (t : ℕ) → operand-lts.Need-label-requires (operand-calls t) (operand-at t) operand.Post
+operand-label-requires t c κs = amounts.amount-room (c .before .before .pre .1 .0)
+
+operand-bound-of-requires : (t : ℕ) → operand-lts.Need-bound-of-requires (operand-calls t) (operand-at t) operand.Post
+operand-bound-of-requires t c κs = c .before .before .before .pre .1 .1
+
+operand-amount-magnitude-requires : (t : ℕ) → operand-lts.Need-amount-magnitude-requires (operand-calls t) (operand-at t) operand.Post
+operand-amount-magnitude-requires t c κs = (omega arith, c .before .before .pre .1)
+
+operand-returns : (t : ℕ) → operand-lts.Need-returns (operand-calls t) (operand-at t) operand.Post
+operand-returns t c =
+    let h = c .before .before .before .pre .1 .0 in
+    let b = c .before .before .before .args .bounds .now in
+    let f : SFits w64 (c .before .before .slot .result) = search needs in
+    laws.number-magnitude b h (laws.number-key f (c .before .before .slot .ensures) (c .before .match .keys1)) refl (c .distance .ensures)
+
+operand-returns-2 : (t : ℕ) → operand-lts.Need-returns-2 (operand-calls t) (operand-at t) operand.Post
+operand-returns-2 t c =
+    let h = c .before .before .before .before .pre .1 .0 in
+    let m = c .before .before .before .before .pre .1 .1 in
+    let b = c .before .before .before .before .args .bounds .now in
+    let f : SFits w64 (c .before .before .before .slot .result) = search needs in
+    let k = laws.index-key f (c .before .before .before .slot .ensures) (c .before .before .match .keys2) in
+    laws.index-magnitude b h k refl m (c .before .label .ensures) (c .bound-of .ensures)
+
+operand-returns-3 : (t : ℕ) → operand-lts.Need-returns-3 (operand-calls t) (operand-at t) operand.Post
+operand-returns-3 t c = c .amount-magnitude .ensures
+
+operand-part : {M : Type 1} (t : ℕ) → operand-lts.Closed (operand-calls t) (operand-at t) operand.Post M
+operand-part t =
+    operand-lts.spec (operand-calls t) (operand-at t) operand.Post
+    (operand-slot-requires t)
+    (operand-distance-requires t)
+    (operand-label-requires t)
+    (operand-bound-of-requires t)
+    (operand-amount-magnitude-requires t)
+    (operand-returns t)
+    (operand-returns-2 t)
+    (operand-returns-3 t)
+
 abbrev test-small-calls : ℕ → test-small-lts.Claims
 test-small-calls t = (
   test-kind-reads.Asked,
@@ -558,15 +636,15 @@ test-small-part t =
     (test-small-returns-6 t)
 
 abbrev two-amounts-calls : ℕ → two-amounts-lts.Claims
-two-amounts-calls t = (amount-magnitude-below t, amount-magnitude.Post, link-reads.Asked, link-reads.Learnt)
+two-amounts-calls t = (operand-below t, operand.Post, link-reads.Asked, link-reads.Learnt)
 
-two-amounts-add-amount-magnitude : (t : ℕ) → two-amounts-lts.Need-add-amount-magnitude (two-amounts-calls t) (two-amounts-at t) two-amounts.Post
-two-amounts-add-amount-magnitude t c =
+two-amounts-add-operand : (t : ℕ) → two-amounts-lts.Need-add-operand (two-amounts-calls t) (two-amounts-at t) two-amounts.Post
+two-amounts-add-operand t c =
     let h = c .pre .1 .0 in
     omega (arith, h .room)
 
-two-amounts-amount-magnitude-requires : (t : ℕ) → two-amounts-lts.Need-amount-magnitude-requires (two-amounts-calls t) (two-amounts-at t) two-amounts.Post
-two-amounts-amount-magnitude-requires t c κs =
+two-amounts-operand-requires : (t : ℕ) → two-amounts-lts.Need-operand-requires (two-amounts-calls t) (two-amounts-at t) two-amounts.Post
+two-amounts-operand-requires t c κs =
     let h = c .pre .1 .0 in
     let m = c .pre .1 .1 in
     (omega arith, (h .first, m))
@@ -576,22 +654,22 @@ two-amounts-link-requires t c κs =
     let h = c .before .pre .1 .0 in
     (h .room, omega arith, h .forward)
 
-two-amounts-amount-magnitude-requires-2 : (t : ℕ) → two-amounts-lts.Need-amount-magnitude-requires-2 (two-amounts-calls t) (two-amounts-at t) two-amounts.Post
-two-amounts-amount-magnitude-requires-2 t c κs =
+two-amounts-operand-requires-2 : (t : ℕ) → two-amounts-lts.Need-operand-requires-2 (two-amounts-calls t) (two-amounts-at t) two-amounts.Post
+two-amounts-operand-requires-2 t c κs =
     let h = c .before .before .pre .1 .0 in
     let m = c .before .before .pre .1 .1 in
     (omega arith, rw (c .link .ensures) (h .second, m))
 
 two-amounts-returns : (t : ℕ) → two-amounts-lts.Need-returns (two-amounts-calls t) (two-amounts-at t) two-amounts.Post
-two-amounts-returns t c = rw (← c .before .link .ensures) (c .before .before .amount-magnitude .ensures, c .amount-magnitude2 .ensures)
+two-amounts-returns t c = rw (← c .before .link .ensures) (c .before .before .operand .ensures, c .operand2 .ensures)
 
 two-amounts-part : {M : Type 1} (t : ℕ) → two-amounts-lts.Closed (two-amounts-calls t) (two-amounts-at t) two-amounts.Post M
 two-amounts-part t =
     two-amounts-lts.spec (two-amounts-calls t) (two-amounts-at t) two-amounts.Post
-    (two-amounts-add-amount-magnitude t)
-    (two-amounts-amount-magnitude-requires t)
+    (two-amounts-add-operand t)
+    (two-amounts-operand-requires t)
     (two-amounts-link-requires t)
-    (two-amounts-amount-magnitude-requires-2 t)
+    (two-amounts-operand-requires-2 t)
     (two-amounts-returns t)
 
 abbrev two-tests-calls : ℕ → two-tests-lts.Claims
@@ -631,5 +709,5 @@ two-tests-part t =
     (two-tests-test-small-requires-2 t)
     (two-tests-returns t)
 
-pub +amount-magnitude+test-small+two-amounts+two-tests-spec : {M : Type 1} → statement M
-+amount-magnitude+test-small+two-amounts+two-tests-spec = close μ-amount-magnitude μ-test-small μ-two-amounts μ-two-tests amount-magnitude-part test-small-part two-amounts-part two-tests-part
+pub +amount-magnitude+operand+test-small+two-amounts+two-tests-spec : {M : Type 1} → statement M
++amount-magnitude+operand+test-small+two-amounts+two-tests-spec = close μ-amount-magnitude μ-operand μ-test-small μ-two-amounts μ-two-tests amount-magnitude-part operand-part test-small-part two-amounts-part two-tests-part
