@@ -17,7 +17,7 @@ use nodes::AmountLetter;
 use nodes::TestLetter;
 use tables::Span;
 
-// The amount at a node: a number or an index without a call.
+// The amount at a node: a number without a call. Small, so that the compiler puts it in each of its places.
 pub fn operands(
     nodes: &[i64; 2560],
     values: &[i64],
@@ -33,7 +33,6 @@ pub fn operands(
     let x = nodes::slot(nodes, at, 0);
     match x {
         78 => four::number(nodes, at),
-        79 => four::reading(nodes, values, bounds, span, waited, at),
         _ => amounts(nodes, values, bounds, span, waited, at, left),
     }
 }

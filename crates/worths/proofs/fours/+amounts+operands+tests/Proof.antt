@@ -3,7 +3,7 @@ use mir.Syntax.{w64}
 use mir.Val.{SFits}
 use native.Mathlib.Omega.{arith}
 use borrow.Author.Needs.{needs}
-use Rattle.amounts.proofs.Nodes.{amount-inside, index-key, number-key, test-inside}
+use Rattle.amounts.proofs.Nodes.{amount-inside, number-key, test-inside}
 use Rattle.language.specs.Text.Form.{fieldsOfAmount, fieldsOfTest}
 use Rattle.nodes.specs.declared.AmountLetter.{AmountLetter}
 use Rattle.nodes.specs.declared.AmountLetter.the-variants as amount
@@ -381,7 +381,7 @@ amounts-part t =
     (amounts-returns-8 t)
 
 abbrev operands-calls : ℕ → operands-lts.Claims
-operands-calls t = (slot-reads.Asked, slot-reads.Learnt, number-reads.Asked, number-reads.Learnt, reading-reads.Asked, reading-reads.Learnt, amounts-below t, amounts.Post)
+operands-calls t = (slot-reads.Asked, slot-reads.Learnt, number-reads.Asked, number-reads.Learnt, amounts-below t, amounts.Post)
 
 operands-slot-requires : (t : ℕ) → operands-lts.Need-slot-requires (operands-calls t) (operands-at t) operands.Post
 operands-slot-requires t c κs = (amount-inside _ _ _ (c .pre .1 .2), omega arith)
@@ -393,13 +393,6 @@ operands-number-requires t c κs =
     let n = amount-node f (c .before .slot .ensures) (c .before .before .pre .1 .2) (c .before .before .pre .1 .3) (number-key _ f (c .match .keys1)) refl in
     (n .inside, n .fields)
 
-operands-reading-requires : (t : ℕ) → operands-lts.Need-reading-requires (operands-calls t) (operands-at t) operands.Post
-unfolding fieldsOfAmount
-operands-reading-requires t c κs =
-    let f : SFits w64 (c .before .slot .result) = search needs in
-    let n = amount-node f (c .before .slot .ensures) (c .before .before .pre .1 .2) (c .before .before .pre .1 .3) (index-key _ f (c .match .keys2)) refl in
-    (n .inside, c .before .before .pre .1 .0, c .before .before .pre .1 .1, n .fields .1)
-
 operands-amounts-requires : (t : ℕ) → operands-lts.Need-amounts-requires (operands-calls t) (operands-at t) operands.Post
 operands-amounts-requires t c κs = (omega arith, c .before .before .pre .1)
 
@@ -410,24 +403,16 @@ operands-returns t c =
     λ e k m. arms.number-arm _ _ _ _ _ _ _ _ n (c .number .ensures e k m)
 
 operands-returns-2 : (t : ℕ) → operands-lts.Need-returns-2 (operands-calls t) (operands-at t) operands.Post
-operands-returns-2 t c =
-    let f : SFits w64 (c .before .before .slot .result) = search needs in
-    let n = amount-node f (c .before .before .slot .ensures) (c .before .before .before .pre .1 .2) (c .before .before .before .pre .1 .3) (index-key _ f (c .before .match .keys2)) refl in
-    λ e k m. arms.index-arm _ _ _ _ _ _ _ _ n (c .reading .ensures e k m)
-
-operands-returns-3 : (t : ℕ) → operands-lts.Need-returns-3 (operands-calls t) (operands-at t) operands.Post
-operands-returns-3 t c = c .amounts .ensures
+operands-returns-2 t c = c .amounts .ensures
 
 operands-part : {M : Type 1} (t : ℕ) → operands-lts.Closed (operands-calls t) (operands-at t) operands.Post M
 operands-part t =
     operands-lts.spec (operands-calls t) (operands-at t) operands.Post
     (operands-slot-requires t)
     (operands-number-requires t)
-    (operands-reading-requires t)
     (operands-amounts-requires t)
     (operands-returns t)
     (operands-returns-2 t)
-    (operands-returns-3 t)
 
 abbrev tests-calls : ℕ → tests-lts.Claims
 tests-calls t = (slot-reads.Asked, slot-reads.Learnt, test-letter-reads.Asked, test-letter-reads.Learnt, operands-below t, operands.Post, link-reads.Asked, link-reads.Learnt, less-than-reads.Asked, less-than-reads.Learnt, equal-to-reads.Asked, equal-to-reads.Learnt, tests-below t, tests.Post, both-hold-reads.Asked, both-hold-reads.Learnt, one-holds-reads.Asked, one-holds-reads.Learnt, opposite-reads.Asked, opposite-reads.Learnt)
