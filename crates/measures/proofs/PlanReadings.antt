@@ -15,9 +15,9 @@ use Rattle.nodes.specs.Table.{linkAt, natOf, slotAt}
 use Rattle.nodes.specs.declared.PlanLetter.the-variants as plan
 use Rattle.nodes.specs.declared.PlanLetter.{PlanLetter}
 use lib.IntN.{_+ℤ_, pos, ℤ}
-use mathlib.Core.Bool.{Bool, _&&_, true}
+use mathlib.Core.Bool.{Bool, _&&_, false, true}
 use mathlib.Core.List.{List}
-use mathlib.Core.Path.{_∙_, _≡_, ap₂}
+use mathlib.Core.Path.{_∙_, _≡_, ap₂, refl}
 use native.Mathlib.Omega.{arith}
 
 -- ---- the months
@@ -75,6 +75,10 @@ module _ {left : ℕ} {first last : Month} {span : Reach} (h : InReach left firs
             ahead = h .ahead;
           }
 
+and-true : (x : Bool) → x ≡ (x && true)
+and-true true = refl
+and-true false = refl
+
 -- ---- the letters
 
 -- what the plan at a node reads
@@ -102,6 +106,11 @@ module _ (t : Table) {left at : ℕ} {nodes : List ℤ} (h : PlanReady left node
         → x ≡ amountReads t a z (amountAt offsetOf maxNodes nodes (at + 1)) → y ≡ readsAt t a z (left - 1) nodes p → (x && y) ≡ whole
     unfolding planReads
     scale-reads q ep ex ey = rw (plan-is h e q, ← ep) (ap₂ _&&_ ex ey)
+
+    -- over a transfer, which reads nothing
+    pub scale-transfer : l ≡ plan.Scale → {p : ℕ} → p ≡ linkAt nodes at 3 → {x : Bool}
+        → x ≡ amountReads t a z (amountAt offsetOf maxNodes nodes (at + 1)) → true ≡ readsAt t a z (left - 1) nodes p → x ≡ whole
+    scale-transfer q ep {x} ex ey = and-true x ∙ scale-reads q ep ex ey
 
     pub both-reads : l ≡ plan.Both → {p : ℕ} → p ≡ linkAt nodes at 3 → {x y : Bool}
         → x ≡ readsAt t a z (left - 1) nodes (at + 1) → y ≡ readsAt t a z (left - 1) nodes p → (x && y) ≡ whole

@@ -6,15 +6,18 @@ use Rattle.language.specs.Text.Trees.{Plan}
 use Rattle.measures.proofs.Amounts.{one-less}
 use Rattle.measures.specs.Blocks.{AmountBlock, PlanBlocks, TestBlock}
 use Rattle.measures.specs.Ready.{AmountReady, PlanReady, TestReady}
+use Rattle.nodes.proofs.Signed.{key}
 use Rattle.nodes.specs.Found.{amountAt, offsetOf, planAt, planBy, testAt}
 use Rattle.nodes.specs.Letters.{planLetter}
 use Rattle.nodes.specs.Stands.{AmountStands, Forward, PlanStands, TestStands, planAsks}
 use Rattle.nodes.specs.Table.{linkAt, natOf, slotAt}
-use Rattle.nodes.specs.declared.PlanLetter.the-variants.{Both, Later, Scale, Within}
+use Rattle.nodes.specs.declared.PlanLetter.the-variants.{Both, Later, Scale, Transfer, Within}
 use Rattle.nodes.specs.declared.PlanLetter.{PlanLetter}
 use lib.IntN.{ℤ}
 use mathlib.Core.List.{List}
 use mathlib.Core.Path.{_∙_, _≡_, refl, subst, sym}
+use mir.Syntax.{w64}
+use mir.Val.{SFits, ofZ}
 use native.Mathlib.Omega.{arith}
 
 -- the plan at a node with letter m, its parts one level down
@@ -123,3 +126,9 @@ module _ {left at : ℕ} {nodes : List ℤ} (h : PlanReady left nodes at) where
           (a .1 .0, record { depth = shallow; stands = a .1 .1; fields = f .2; blocks = b .1 }),
           (a .2 .0, record { depth = shallow; stands = a .2 .1; fields = f .3; blocks = b .2 }),
         )
+
+-- ---- a transfer, by its key
+
+pub transfer-key : {s x : ℤ} → SFits w64 s → s ≡ x → ofZ w64 s ≡ 84 → planLetter x ≡ Transfer
+unfolding planLetter
+transfer-key f e k = rw (← e, key f k) refl

@@ -96,6 +96,9 @@ pub fn plan_first(nodes: &[i64; 2560], at: usize, left: usize) -> FirstPay
         PlanLetter::Scale => {
             let next = nodes::link(nodes, at, 3);
             let l = latest::rows_latest(nodes, at + 1, next);
+            if node::is_transfer(nodes, next) {
+                return in_time(l, FirstPay::From(Month(0)));
+            }
             let x = plan_first(nodes, next, left - 1);
             in_time(l, x)
         }

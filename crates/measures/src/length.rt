@@ -27,7 +27,13 @@ pub fn plan_length(nodes: &[i64; 2560], at: usize, left: usize) -> Month
     match letter {
         PlanLetter::Nothing => Month(0),
         PlanLetter::Transfer => Month(0),
-        PlanLetter::Scale => plan_length(nodes, nodes::link(nodes, at, 3), left - 1),
+        PlanLetter::Scale => {
+            let next = nodes::link(nodes, at, 3);
+            if node::is_transfer(nodes, next) {
+                return Month(0);
+            }
+            plan_length(nodes, next, left - 1)
+        }
         PlanLetter::Later => {
             let d = node::delay(nodes, at);
             let x = plan_length(nodes, at + 1, left - 1);

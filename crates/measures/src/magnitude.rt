@@ -143,8 +143,15 @@ pub fn plan_magnitude(nodes: &[i64; 2560], at: usize, left: usize, bounds: &[i64
         PlanLetter::Nothing => Measured::Within(Pence(0)),
         PlanLetter::Transfer => Measured::Within(Pence(1)),
         PlanLetter::Scale => {
-            let x = amount_magnitude(nodes, at + 1, 512, bounds);
-            let y = plan_magnitude(nodes, nodes::link(nodes, at, 3), left - 1, bounds);
+            let x = operand(nodes, at + 1, 512, bounds);
+            let next = nodes::link(nodes, at, 3);
+            if node::is_transfer(nodes, next) {
+                return product_of(Two {
+                    first: x,
+                    second: Measured::Within(Pence(1)),
+                });
+            }
+            let y = plan_magnitude(nodes, next, left - 1, bounds);
             product_of(Two {
                 first: x,
                 second: y,

@@ -1,9 +1,11 @@
 // A node's letter and fields.
 ghost use mathlib.Core.Path.{_≡_};
+ghost use mathlib.Core.Bool.{true};
 ghost use Prim.Native.Nat.{_<_};
 ghost use lib.IntN.{pos};
 ghost use Rattle.nodes.specs.Letters.{planLetter, amountLetter, testLetter};
 ghost use Rattle.nodes.specs.Table.{slotAt, natOf};
+ghost use Rattle.nodes.specs.declared.PlanLetter.the-variants.{Transfer};
 ghost use Rattle.measures.specs.Rows.{isIndex};
 use integers::Month;
 use nodes::AmountLetter;
@@ -49,6 +51,14 @@ pub fn is_index(nodes: &[i64; 2560], at: usize) -> bool
 {
     let x = nodes::slot(nodes, at, 0);
     x == 79
+}
+
+pub fn is_transfer(nodes: &[i64; 2560], at: usize) -> bool
+    requires { ⌜ at < 512 ⌝ }
+    ensures { λ r. ⌜ (r ≡ true → planLetter (slotAt (now (nodes .entry)) at 0) ≡ Transfer) ⌝ }
+{
+    let x = nodes::slot(nodes, at, 0);
+    x == 84
 }
 
 // The offset of an `O`.

@@ -86,6 +86,9 @@ pub fn plan_reads(
         PlanLetter::Scale => {
             let next = nodes::link(nodes, at, 3);
             let x = rows_read(nodes, at + 1, next, window_of(first, last, span));
+            if node::is_transfer(nodes, next) {
+                return x;
+            }
             let y = plan_reads(nodes, next, left - 1, first, last, span);
             x & y
         }

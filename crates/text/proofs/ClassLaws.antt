@@ -1,11 +1,11 @@
 -- Laws of classes of fields and of their ranges.
-use Prim.Native.Nat.{_-_, _<_, _≤_, ℕ}
+use Prim.Native.Nat.{_+_, _-_, _<_, _≤_, ℕ}
 use borrow.Author.Tests.{eqb-true, le-leb, leb-true, lt-leb, ltb-false, ltb-true, ne-eqb}
 use lib.Dec.{eqb, leb}
 use lib.IntN.{natAbs, negsuc, negℤ, pos, ℤ}
 use lib.ListN.{getD}
 use lib.Signed.{leZ, ltZ}
-use mathlib.Core.Bool.{Bool, _&&_, cond, false, true}
+use mathlib.Core.Bool.{Bool, _&&_, _||_, cond, false, not, true}
 use mathlib.Core.List.{List, [], _∷_}
 use mathlib.Core.Option.{Option, none, some}
 use mathlib.Core.Path.{_∙_, _≡_, ap, refl, sym}
@@ -15,7 +15,7 @@ use mir.ValLaws.{toZ-ofZ, toZ-pos}
 use native.Mathlib.Omega.{arith}
 use Rattle.language.specs.Text.Classes.{Field, aDelay, aNumber, asNumber, fieldOf, ranged, readSetting}
 use Rattle.language.specs.Text.Letters.{Class, delay, divisor, figure, fromNode, label, party}
-use Rattle.language.specs.Text.Number.{between, keep, readNumber}
+use Rattle.language.specs.Text.Number.{between, keep, readNatural, readNumber, valueOf}
 use Rattle.language.specs.Text.Trees.{months}
 use Rattle.nodes.specs.Rows.{delaySlot, fieldSlots}
 use Rattle.text.specs.Classes.{Limited, classOf, from, rangeOf}
@@ -27,6 +27,10 @@ use Rattle.text.specs.declared.fields.Range.{Range}
 and-false : (b : Bool) → (b && false) ≡ false
 and-false true = refl
 and-false false = refl
+
+or-true : (b : Bool) → (b || true) ≡ true
+or-true true = refl
+or-true false = refl
 
 lt-le : (a b : ℤ) → ltZ a b ≡ true → leZ b a ≡ false
 lt-le (pos a) (pos b) e = lt-leb b a (ltb-true a b e)
@@ -80,6 +84,14 @@ ranged-beyond r k (some z) h = rw (outside (r .low) (r .high) z (k .low) (k .hig
 figure-in : (z : ℤ) → natAbs z ≤ 9000000000000 → between (negℤ (pos 9000000000000)) (pos 9000000000000) z ≡ true
 figure-in (pos n) h = le-leb n 9000000000000 h
 figure-in (negsuc n) h = rw (le-leb n 8999999999999 (omega arith)) refl
+
+-- ---- a digit alone
+
+pub number-digit : (f : List ℕ) (c : ℕ) → f ≡ c ∷ [] → 48 ≤ c → c ≤ 57 → readNumber f ≡ some (pos (c - 48))
+unfolding readNumber readNatural valueOf
+number-digit f c e l h =
+    let q : 0 + (c - 48) ≡ c - 48 = omega arith in
+    rw (e, ne-eqb c 45 (λ q. omega arith), le-leb 48 c l, le-leb c 57 h, or-true (not (eqb c 48))) (ap (λ (n : ℕ). some (pos n)) q)
 
 -- ---- by class
 

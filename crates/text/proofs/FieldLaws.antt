@@ -19,8 +19,7 @@ use Rattle.text.specs.declared.fields.Taking.{Taking}
 use Rattle.text.specs.declared.fields.Taking.the-variants.{Value, Wrong}
 use Rattle.text.specs.declared.slots.Taking2.{Taking2}
 use Rattle.text.specs.declared.slots.Taking2.the-variants.{Values, Wrongs}
-use Rattle.text.proofs.ClassLaws.{Held, plain-fails, plain-reads}
-use Rattle.text.proofs.NumberLaws.{number-digit}
+use Rattle.text.proofs.ClassLaws.{Held, number-digit, plain-fails, plain-reads}
 use Rattle.text.proofs.Positions.{first-field, from-behind, up-fits}
 
 -- ---- the field at a byte

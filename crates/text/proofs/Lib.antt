@@ -8,7 +8,7 @@ pub mod MonthParts
 pub mod MonthLaws
 pub mod LetterLaws
 pub mod OpenLaws
-pub mod LeafLaws
+pub mod CommonLaws
 pub mod RowLaws
 pub mod GrowLaws
 pub mod TextLaws

@@ -143,13 +143,6 @@ number-minus f g at e (Plain (suc v) end) w = rw (ne-eqb (suc v) 0 (λ q. omega 
 })
 number-minus f g at e Malformed w = rw e (beyond-minus (readNatural g) w)
 
--- a digit alone
-pub number-digit : (f : List ℕ) (c : ℕ) → f ≡ c ∷ [] → 48 ≤ c → c ≤ 57 → readNumber f ≡ some (pos (c - 48))
-unfolding readNumber readNatural valueOf
-number-digit f c e l h =
-    let q : 0 + (c - 48) ≡ c - 48 = omega arith in
-    rw (e, ne-eqb c 45 (λ q. omega arith), le-leb 48 c l, le-leb c 57 h, or-true (not (eqb c 48))) (ap (λ (n : ℕ). some (pos n)) q)
-
 -- ---- a magnitude within the limit, as the machine reads it
 
 pub read-pos : (v : ℕ) → v ≤ 9000000000000 → toZ w64 v ≡ pos v

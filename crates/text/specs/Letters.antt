@@ -1,11 +1,12 @@
 -- The letter table as the code has it: kinds and classes by number.
-use Prim.Native.Nat.{_≤_, ℕ}
+use Prim.Native.Nat.{_%_, _/_, _≤_, ℕ}
 use lib.Dec.{eqb}
 use mathlib.Core.Bool.{cond}
 use mathlib.Core.List.{List, [], _∷_}
 use mathlib.Core.Option.{Option, none, some}
 use mathlib.Core.Path.{_≡_}
 use Rattle.language.specs.Text.Letters.{Form, Kind, Letter, PayoffLetter, PlanLetter, amount, kindOf, letterAmong, payoffForm, planForm, root, rootsThen, rowOf, test}
+use Rattle.language.specs.Text.Number.{byte}
 use Rattle.text.specs.Fields.{classesOfThree}
 use Rattle.text.specs.declared.letters.Shape.{Shape}
 use Rattle.text.specs.declared.letters.TextForm.{TextForm}
@@ -51,3 +52,13 @@ module _ {P : Type 0} (form : Form P) (letter : ℕ) where
 
   abbrev pub ShapeIs : Shape → Type 0
   ShapeIs s = ShapeFor (letterAmong form (rootsThen form (form .letters)) letter) s
+
+-- ---- a letter without fields, in one number: its kind and the kinds of its children, from the lowest digit in base 4
+
+abbrev pub bareShape : ℕ → Shape
+bareShape p = record { kind = p % 4; first = 0; second = 0; third = 0; kid1 = p / 4 % 4; kid2 = p / 16 % 4; kid3 = p / 64 }
+
+-- in both texts the letter has this row, unless p is 0
+pub record BareIs (letter p : ℕ) : Type 0 where
+  pub is : (p ≡ 0 → ⊥) → (form : TextForm) → ShapeIs (formOf form) letter (bareShape p)
+  pub other : (p ≡ 0 → ⊥) → letter ≡ byte "," → ⊥

@@ -17,9 +17,9 @@ use Rattle.text.specs.Refusals.{numberOf}
 use Rattle.text.specs.declared.slots.Slots.{Slots}
 use Rattle.text.specs.declared.slots.Slots.the-variants.{Filled, Unfilled}
 use Rattle.text.specs.declared.trees.Head.{Head}
-use Rattle.text.specs.declared.trees.Leaf.{Leaf}
-use Rattle.text.specs.declared.trees.Leaf.the-variants as leaves
-use Rattle.text.specs.declared.trees.Leaf.the-variants.{Plain}
+use Rattle.text.specs.declared.trees.Common.{Common}
+use Rattle.text.specs.declared.trees.Common.the-variants as common
+use Rattle.text.specs.declared.trees.Common.the-variants.{Plain}
 use Rattle.text.specs.declared.trees.Opened.{Opened}
 use Rattle.text.specs.declared.trees.Opened.the-variants.{Closed, Node}
 use Rattle.text.specs.declared.trees.Read as trees
@@ -32,10 +32,10 @@ abbrev pub SoleIs : List ℕ → Sole → Type 0
 SoleIs f (Byte b) = f ≡ b ∷ []
 SoleIs f Other = length f ≡ 1 → ⊥
 
--- a leaf with these slots
-unfoldable pub leafOf : ℕ → Slots → Leaf
-leafOf letter (Filled a b c d next) = Plain (record { letter = letter; a = a; b = b; c = c; d = d; next = next; kid1 = 0; kid2 = 0; kid3 = 0 })
-leafOf letter Unfilled = leaves.Other
+-- a node with these slots and at most one child
+unfoldable pub commonOf : ℕ → Slots → ℕ → Common
+commonOf letter (Filled a b c d next) kid = Plain (record { letter = letter; a = a; b = b; c = c; d = d; next = next; kid1 = kid; kid2 = 0; kid3 = 0 })
+commonOf letter Unfilled kid = common.Other
 
 -- the row of a node without children, and of one whose second and third child stand in these rows
 abbrev pub leafRow : Head → List ℤ
@@ -86,10 +86,10 @@ module _ {P : Type 0} (form : Form P) (left : ℕ) where
   ReadIs kind text at old new count (Stopped k) = Refuses kind text at count (numberOf k)
 
 module _ {P : Type 0} (form : Form P) where
-  -- a leaf of the kind stands at byte `at`: it is opened wherever there is room for it
+  -- a node of the kind stands at byte `at`: it is opened wherever there is room for it
   pub record Opens (kind : Kind) (text : List ℕ) (at : ℕ) (h : Head) : Type 0 where
     pub is : (left count : ℕ) → count < maxNodes → 0 < left → Begun form left kind text at count h
 
-  abbrev pub LeafIs : Kind → List ℕ → ℕ → Leaf → Type 0
-  LeafIs kind text at (Plain h) = Opens kind text at h
-  LeafIs kind text at leaves.Other = Unit {0}
+  abbrev pub CommonIs : Kind → List ℕ → ℕ → Common → Type 0
+  CommonIs kind text at (Plain h) = Opens kind text at h
+  CommonIs kind text at common.Other = Unit {0}

@@ -1,7 +1,7 @@
 // The letter table: which letters a text has, and what stands behind each.
 ghost use mathlib.Core.Path.{_≡_};
 ghost use Rattle.language.specs.Text.Letters.{planForm, payoffForm};
-ghost use Rattle.text.specs.Letters.{formOf, ShapeIs};
+ghost use Rattle.text.specs.Letters.{BareIs, formOf, ShapeIs};
 use crate::fields::DELAY;
 use crate::fields::DIVISOR;
 use crate::fields::FIGURE;
@@ -120,5 +120,26 @@ pub fn shape_of(form: TextForm, letter: u8) -> Shape
     match form {
         TextForm::Plan => plan_shape(letter),
         TextForm::Payoff => payoff_shape(letter),
+    }
+}
+
+// A letter without fields, of either text, in one byte: its kind and the kinds of its children. 0 for any other.
+pub fn bare_letter(letter: u8) -> u8
+    ensures { λ r. ⌜ BareIs letter r ⌝ }
+{
+    match letter {
+        b'Z' => 1,
+        b'S' => 25,
+        b'B' => 21,
+        b'A' => 42,
+        b'U' => 42,
+        b'K' => 42,
+        b'I' => 174,
+        b'G' => 43,
+        b'E' => 43,
+        b'Y' => 63,
+        b'V' => 63,
+        b'R' => 15,
+        _ => 0,
     }
 }

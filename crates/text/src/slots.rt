@@ -5,6 +5,7 @@ ghost use lib.ListN.{length};
 ghost use Rattle.language.specs.Text.Letters.{figure, month};
 ghost use Rattle.text.specs.Classes.{classOf};
 ghost use Rattle.text.specs.Fields.{MonthIs, PairIs, SlotsAre, classesOfTwo, classesOfThree};
+use crate::fields::LABEL;
 use crate::fields::MONTH;
 use crate::fields::NONE;
 use crate::fields::Range;
@@ -157,6 +158,23 @@ pub fn read_figure(text: &[u8], at: usize) -> Slots
     }
 }
 
+// The field of a node with one that is no month.
+pub fn read_one(text: &[u8], at: usize, class: u8) -> Slots
+    requires { ⌜ at ≤ length (now text) + 1 ⌝ }
+    ensures { λ r. ⌜ SlotsAre (classOf class ∷ []) (now (text .entry)) at r ⌝ }
+{
+    match read_field(text, at, class) {
+        Taking::Value { value: a, next } => Slots::Filled {
+            a,
+            b: 0,
+            c: 0,
+            d: 0,
+            next,
+        },
+        Taking::Wrong => Slots::Unfilled,
+    }
+}
+
 // The fields of a node with two that are no months.
 pub fn read_two(text: &[u8], at: usize, first: u8, second: u8) -> Slots
     requires { ⌜ at ≤ length (now text) + 1 ⌝ }
@@ -172,6 +190,30 @@ pub fn read_two(text: &[u8], at: usize, first: u8, second: u8) -> Slots
                 next: n,
             },
             Taking::Wrong => Slots::Unfilled,
+        },
+        Taking::Wrong => Slots::Unfilled,
+    }
+}
+
+// A label and a month.
+pub fn read_reading(text: &[u8], at: usize) -> Slots
+    requires { ⌜ at ≤ length (now text) + 1 ⌝ }
+    ensures { λ r. ⌜ SlotsAre (classOf 4 ∷ month ∷ []) (now (text .entry)) at r ⌝ }
+{
+    match read_field(text, at, LABEL) {
+        Taking::Value { value: a, next } => match read_month(text, next) {
+            Taking2::Values {
+                a: b,
+                b: c,
+                next: n,
+            } => Slots::Filled {
+                a,
+                b,
+                c,
+                d: 0,
+                next: n,
+            },
+            Taking2::Wrongs => Slots::Unfilled,
         },
         Taking::Wrong => Slots::Unfilled,
     }

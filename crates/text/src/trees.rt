@@ -5,11 +5,12 @@ ghost use Prim.Native.Nat.{_+_, _-_, _*_, _≤_, _<_};
 ghost use lib.IntN.{pos};
 ghost use lib.ListN.{length, drop, getD};
 ghost use lib.Seq.{sets};
-ghost use Rattle.language.specs.Text.Letters.{planForm};
+ghost use Rattle.language.specs.Text.Letters.{payoffForm, planForm};
 ghost use Rattle.text.specs.Letters.{formOf, kindAt};
 ghost use Rattle.text.specs.Positions.{upTo};
-ghost use Rattle.text.specs.Trees.{SoleIs, LeafIs, OpenedIs, ReadIs, leafOf, leafRow, overRow};
+ghost use Rattle.text.specs.Trees.{SoleIs, CommonIs, OpenedIs, ReadIs, commonOf, leafRow, overRow};
 use crate::Refusal;
+use crate::fields::DELAY;
 use crate::fields::FROM_NODE;
 use crate::fields::LABEL;
 use crate::fields::NONE;
@@ -17,10 +18,13 @@ use crate::fields::PARTY;
 use crate::letters::AMOUNT;
 use crate::letters::ROOT;
 use crate::letters::TextForm;
+use crate::letters::bare_letter;
 use crate::letters::shape_of;
 use crate::slots::Slots;
 use crate::slots::read_fields;
 use crate::slots::read_figure;
+use crate::slots::read_one;
+use crate::slots::read_reading;
 use crate::slots::read_two;
 
 pub const MAX_DEPTH: usize = 32;
@@ -51,8 +55,8 @@ pub enum Opened {
     Closed(Refusal),
 }
 
-// A leaf of the kind that is asked for, or another node.
-pub enum Leaf {
+// One of the commonest nodes, of the kind that is asked for, or another.
+pub enum Common {
     Plain(Head),
     Other,
 }
@@ -83,69 +87,105 @@ fn letter_at(text: &[u8], at: usize) -> Sole
     Sole::Other
 }
 
-fn leaf_of(letter: u8, slots: Slots) -> Leaf
-    ensures { λ r. ⌜ r ≡ leafOf letter slots ⌝ }
+// A node with these fields and at most one child.
+fn common_of(letter: u8, slots: Slots, kid: u8) -> Common
+    ensures { λ r. ⌜ r ≡ commonOf letter slots kid ⌝ }
 {
     match slots {
-        Slots::Filled { a, b, c, d, next } => Leaf::Plain(Head {
+        Slots::Filled { a, b, c, d, next } => Common::Plain(Head {
             letter,
             a,
             b,
             c,
             d,
             next,
-            kid1: NONE,
+            kid1: kid,
             kid2: NONE,
             kid3: NONE,
         }),
-        Slots::Unfilled => Leaf::Other,
+        Slots::Unfilled => Common::Other,
     }
 }
 
-// An index or a transfer of a plan.
-fn plan_leaf(text: &[u8], at: usize, kind: u8) -> Leaf
+// An index, a transfer or a delayed plan, of a plan.
+fn plan_common(text: &[u8], at: usize, kind: u8) -> Common
     requires { ⌜ (at + 2 ≤ length (now text)) × (getD (now text) (at + 1) 0 ≡ 44) ⌝ }
-    ensures { λ r. ⌜ LeafIs planForm (kindAt kind) (now (text .entry)) at r ⌝ }
+    ensures { λ r. ⌜ CommonIs planForm (kindAt kind) (now (text .entry)) at r ⌝ }
 {
     let letter = text[at];
     match letter {
         b'O' => {
             if kind == AMOUNT {
-                return leaf_of(b'O', read_two(text, at + 2, LABEL, FROM_NODE));
+                return common_of(b'O', read_two(text, at + 2, LABEL, FROM_NODE), NONE);
             }
-            Leaf::Other
+            Common::Other
+        }
+        b'L' => {
+            if kind == ROOT {
+                return common_of(b'L', read_one(text, at + 2, DELAY), ROOT);
+            }
+            Common::Other
         }
         b'T' => {
             if kind == ROOT {
-                return leaf_of(b'T', read_two(text, at + 2, PARTY, PARTY));
+                return common_of(b'T', read_two(text, at + 2, PARTY, PARTY), NONE);
             }
-            Leaf::Other
+            Common::Other
         }
-        _ => Leaf::Other,
+        _ => Common::Other,
     }
 }
 
-// The commonest leaves: numbers, and indexes and transfers of plans.
-fn leaf_at(form: TextForm, text: &[u8], at: usize, kind: u8) -> Leaf
-    ensures { λ r. ⌜ LeafIs (formOf form) (kindAt kind) (now (text .entry)) at r ⌝ }
+// An index of a payoff.
+fn payoff_common(text: &[u8], at: usize, kind: u8) -> Common
+    requires { ⌜ (at + 2 ≤ length (now text)) × (getD (now text) (at + 1) 0 ≡ 44) ⌝ }
+    ensures { λ r. ⌜ CommonIs payoffForm (kindAt kind) (now (text .entry)) at r ⌝ }
+{
+    if text[at] == b'O' {
+        if kind == AMOUNT {
+            return common_of(b'O', read_reading(text, at + 2), NONE);
+        }
+    }
+    Common::Other
+}
+
+// The commonest nodes: letters without fields, numbers and indexes, and transfers and delays of plans.
+fn common_at(form: TextForm, text: &[u8], at: usize, kind: u8) -> Common
+    requires { ⌜ 0 < kind ⌝ }
+    ensures { λ r. ⌜ CommonIs (formOf form) (kindAt kind) (now (text .entry)) at r ⌝ }
 {
     if text.len() <= at {
-        return Leaf::Other;
+        return Common::Other;
     }
     if text.len() - at < 3 {
-        return Leaf::Other;
+        return Common::Other;
     }
     if text[at + 1] != b',' {
-        return Leaf::Other;
+        return Common::Other;
     }
     if text[at] == b'N' {
         if kind == AMOUNT {
-            return leaf_of(b'N', read_figure(text, at + 2));
+            return common_of(b'N', read_figure(text, at + 2), NONE);
         }
     }
+    let letter = text[at];
+    let bare = bare_letter(letter);
+    if bare % 4 == kind {
+        return Common::Plain(Head {
+            letter,
+            a: 0,
+            b: 0,
+            c: 0,
+            d: 0,
+            next: at + 2,
+            kid1: bare / 4 % 4,
+            kid2: bare / 16 % 4,
+            kid3: bare / 64,
+        });
+    }
     match form {
-        TextForm::Plan => plan_leaf(text, at, kind),
-        TextForm::Payoff => Leaf::Other,
+        TextForm::Plan => plan_common(text, at, kind),
+        TextForm::Payoff => payoff_common(text, at, kind),
     }
 }
 
@@ -206,20 +246,20 @@ fn open_any(form: TextForm, text: &[u8], at: usize, kind: u8, count: usize, left
     }
 }
 
-// A node of any letter; the commonest leaves are tried first.
+// A node of any letter; the commonest are tried first.
 fn open_node(form: TextForm, text: &[u8], at: usize, kind: u8, count: usize, left: usize) -> Opened
     requires { ⌜ (at ≤ length (now text) + 1) × (0 < kind) × (kind ≤ 3) ⌝ }
     ensures { λ r. ⌜ OpenedIs (formOf form) left (kindAt kind) (now (text .entry)) at count r ⌝ }
 {
-    match leaf_at(form, text, at, kind) {
-        Leaf::Plain(h) => {
+    match common_at(form, text, at, kind) {
+        Common::Plain(h) => {
             if count < MAX_NODES {
                 if 0 < left {
                     return Opened::Node(h);
                 }
             }
         }
-        Leaf::Other => {}
+        Common::Other => {}
     }
     open_any(form, text, at, kind, count, left)
 }

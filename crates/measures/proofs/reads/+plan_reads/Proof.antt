@@ -1,4 +1,4 @@
-use Prim.Native.Nat.{_<_, ℕ}
+use Prim.Native.Nat.{_-_, _<_, ℕ}
 use Rattle.integers.proofs.later.Reads as later-reads
 use Rattle.measures.proofs.Lengths as lengths
 use Rattle.measures.proofs.PlanReadings as laws
@@ -6,6 +6,7 @@ use Rattle.measures.proofs.PlanRows as rows
 use Rattle.measures.proofs.Plans as plans
 use Rattle.measures.proofs.Readings as readings
 use Rattle.measures.proofs.node.delay.Reads as delay-reads
+use Rattle.measures.proofs.node.is_transfer.Reads as is-transfer-reads
 use Rattle.measures.proofs.node.plan_kind.Reads as plan-kind-reads
 use Rattle.measures.proofs.reads.+plan_reads.Lts-plan_reads as plan-reads-lts
 use Rattle.measures.proofs.reads.+plan_reads.Tie.{close}
@@ -15,6 +16,8 @@ use Rattle.measures.proofs.reads.plan_reads.Reads as plan-reads
 use Rattle.measures.proofs.reads.rows_read.Reads as rows-read-reads
 use Rattle.measures.proofs.reads.window_of.Reads as window-of-reads
 use Rattle.nodes.proofs.link.Reads as link-reads
+use Rattle.measures.specs.Ready.{PlanReady}
+use mathlib.Core.Path.{refl}
 use borrow.Author.Needs.{needs}
 use borrow.Fn.Kinds.{In}
 use borrow.Fn.PlainCycle.{Measures, and, falls, is}
@@ -41,6 +44,8 @@ plan-reads-calls t = (
   window-of-reads.Learnt,
   rows-read-reads.Asked,
   rows-read-reads.Learnt,
+  is-transfer-reads.Asked,
+  is-transfer-reads.Learnt,
   plan-reads-below t,
   plan-reads.Post,
   delay-reads.Asked,
@@ -78,18 +83,36 @@ plan-reads-rows-read-requires t c κs =
     let q = c .before .before .enum-told3 .given .1 in
     rows.scale-rows h k (c .before .link .ensures) q
 
+plan-reads-is-transfer-requires : (t : ℕ) → plan-reads-lts.Need-is-transfer-requires (plan-reads-calls t) (plan-reads-at t) plan-reads.Post
+plan-reads-is-transfer-requires t c κs =
+    let h = c .before .before .before .before .before .before .pre .1 .0 in
+    let k = c .before .before .before .before .before .plan-kind .ensures in
+    let q = c .before .before .before .enum-told3 .given .1 in
+    rw (c .before .before .link .ensures) (plans.plan-room (plans.scale-ready h k q .2))
+
+plan-reads-returns : (t : ℕ) → plan-reads-lts.Need-returns (plan-reads-calls t) (plan-reads-at t) plan-reads.Post
+plan-reads-returns t c =
+    let h = c .before .before .before .before .before .before .before .before .pre .1 .0 in
+    let k = c .before .before .before .before .before .before .before .plan-kind .ensures in
+    let q = c .before .before .before .before .before .enum-told3 .given .1 in
+    let m = c .before .before .before .before .before .before .before .before .pre .1 .1 in
+    let a = c .before .before .before .before .before .before .before .before .args in
+    let r : PlanReady (a .left - 1) (a .nodes .now) (c .before .before .before .before .link .result) = rw (c .before .before .before .before .link .ensures) (plans.scale-ready h k q .2) in
+    let x = rows.scale-window h k (c .before .before .before .before .link .ensures) m (c .before .before .before .window-of .ensures) (c .before .before .rows-read .ensures) q in
+    laws.scale-transfer _ h k _ _ q (c .before .before .before .before .link .ensures) x (laws.transfer-reads _ r refl _ _ (c .before .is-transfer .ensures (c .if1 .taken)))
+
 plan-reads-sub-plan-reads : (t : ℕ) → plan-reads-lts.Need-sub-plan-reads (plan-reads-calls t) (plan-reads-at t) plan-reads.Post
 plan-reads-sub-plan-reads t c =
-    let h = c .before .before .before .before .before .before .pre .1 .0 in
+    let h = c .before .before .before .before .before .before .before .before .pre .1 .0 in
     omega (arith, plans.plan-some h)
 
 plan-reads-plan-reads-requires : (t : ℕ) → plan-reads-lts.Need-plan-reads-requires (plan-reads-calls t) (plan-reads-at t) plan-reads.Post
 plan-reads-plan-reads-requires t c κs =
-    let h = c .before .before .before .before .before .before .pre .1 .0 in
-    let m = c .before .before .before .before .before .before .pre .1 .1 in
-    let k = c .before .before .before .before .before .plan-kind .ensures in
-    let q = c .before .before .before .enum-told3 .given .1 in
-    (omega (arith, plans.plan-some h), rw (c .before .before .link .ensures) (plans.scale-ready h k q .2, laws.reach-down m (plans.plan-some h)))
+    let h = c .before .before .before .before .before .before .before .before .pre .1 .0 in
+    let k = c .before .before .before .before .before .before .before .plan-kind .ensures in
+    let q = c .before .before .before .before .before .enum-told3 .given .1 in
+    let m = c .before .before .before .before .before .before .before .before .pre .1 .1 in
+    (omega (arith, plans.plan-some h), rw (c .before .before .before .before .link .ensures) (plans.scale-ready h k q .2, laws.reach-down m (plans.plan-some h)))
 
 plan-reads-delay-requires : (t : ℕ) → plan-reads-lts.Need-delay-requires (plan-reads-calls t) (plan-reads-at t) plan-reads.Post
 plan-reads-delay-requires t c κs =
@@ -263,46 +286,46 @@ plan-reads-plan-reads-requires-6 t c κs =
     let r = laws.reach-later m (plans.plan-some h) delay2-is d later3-is later4-is in
     (omega (arith, plans.plan-some h), rw (c .link4 .ensures) (plans.within-ready h k q .3 .1, r))
 
-plan-reads-returns : (t : ℕ) → plan-reads-lts.Need-returns (plan-reads-calls t) (plan-reads-at t) plan-reads.Post
-plan-reads-returns t c =
+plan-reads-returns-2 : (t : ℕ) → plan-reads-lts.Need-returns-2 (plan-reads-calls t) (plan-reads-at t) plan-reads.Post
+plan-reads-returns-2 t c =
     let h = c .before .before .before .pre .1 .0 in
     let k = c .before .before .plan-kind .ensures in
     let q = c .enum-told .given .1 in
     laws.nothing-reads _ h k _ _ q
 
-plan-reads-returns-2 : (t : ℕ) → plan-reads-lts.Need-returns-2 (plan-reads-calls t) (plan-reads-at t) plan-reads.Post
-plan-reads-returns-2 t c =
+plan-reads-returns-3 : (t : ℕ) → plan-reads-lts.Need-returns-3 (plan-reads-calls t) (plan-reads-at t) plan-reads.Post
+plan-reads-returns-3 t c =
     let h = c .before .before .before .pre .1 .0 in
     let k = c .before .before .plan-kind .ensures in
     let q = c .enum-told2 .given .1 in
     laws.transfer-reads _ h k _ _ q
 
-plan-reads-returns-3 : (t : ℕ) → plan-reads-lts.Need-returns-3 (plan-reads-calls t) (plan-reads-at t) plan-reads.Post
-plan-reads-returns-3 t c =
-    let h = c .before .before .before .before .before .before .before .pre .1 .0 in
-    let m = c .before .before .before .before .before .before .before .pre .1 .1 in
-    let k = c .before .before .before .before .before .before .plan-kind .ensures in
-    let q = c .before .before .before .before .enum-told3 .given .1 in
-    let x = rows.scale-window h k (c .before .before .before .link .ensures) m (c .before .before .window-of .ensures) (c .before .rows-read .ensures) q in
-    laws.scale-reads _ h k _ _ q (c .before .before .before .link .ensures) x (c .plan-reads .ensures)
-
 plan-reads-returns-4 : (t : ℕ) → plan-reads-lts.Need-returns-4 (plan-reads-calls t) (plan-reads-at t) plan-reads.Post
 plan-reads-returns-4 t c =
+    let h = c .before .before .before .before .before .before .before .before .before .pre .1 .0 in
+    let k = c .before .before .before .before .before .before .before .before .plan-kind .ensures in
+    let q = c .before .before .before .before .before .before .enum-told3 .given .1 in
+    let m = c .before .before .before .before .before .before .before .before .before .pre .1 .1 in
+    let x = rows.scale-window h k (c .before .before .before .before .before .link .ensures) m (c .before .before .before .before .window-of .ensures) (c .before .before .before .rows-read .ensures) q in
+    laws.scale-reads _ h k _ _ q (c .before .before .before .before .before .link .ensures) x (c .plan-reads .ensures)
+
+plan-reads-returns-5 : (t : ℕ) → plan-reads-lts.Need-returns-5 (plan-reads-calls t) (plan-reads-at t) plan-reads.Post
+plan-reads-returns-5 t c =
     let h = c .before .before .before .before .before .before .before .pre .1 .0 in
     let m = c .before .before .before .before .before .before .before .pre .1 .1 in
     let k = c .before .before .before .before .before .before .plan-kind .ensures in
     let q = c .before .before .before .before .enum-told4 .given .1 in
     laws.later-reads _ h k m (c .before .before .before .delay .ensures) (c .before .before .later .ensures) (c .before .later2 .ensures) q (c .plan-reads2 .ensures)
 
-plan-reads-returns-5 : (t : ℕ) → plan-reads-lts.Need-returns-5 (plan-reads-calls t) (plan-reads-at t) plan-reads.Post
-plan-reads-returns-5 t c =
+plan-reads-returns-6 : (t : ℕ) → plan-reads-lts.Need-returns-6 (plan-reads-calls t) (plan-reads-at t) plan-reads.Post
+plan-reads-returns-6 t c =
     let h = c .before .before .before .before .before .before .pre .1 .0 in
     let k = c .before .before .before .before .before .plan-kind .ensures in
     let q = c .before .before .before .enum-told5 .given .1 in
     laws.both-reads _ h k _ _ q (c .before .link2 .ensures) (c .before .before .plan-reads3 .ensures) (c .plan-reads4 .ensures)
 
-plan-reads-returns-6 : (t : ℕ) → plan-reads-lts.Need-returns-6 (plan-reads-calls t) (plan-reads-at t) plan-reads.Post
-plan-reads-returns-6 t c =
+plan-reads-returns-7 : (t : ℕ) → plan-reads-lts.Need-returns-7 (plan-reads-calls t) (plan-reads-at t) plan-reads.Post
+plan-reads-returns-7 t c =
     let pre-1-0 = c .before .before .before .before .before .before .before .before .before .before .before .before .pre .1 .0 in
     let h = pre-1-0 in
     let pre-1-1 = c .before .before .before .before .before .before .before .before .before .before .before .before .pre .1 .1 in
@@ -323,8 +346,8 @@ plan-reads-returns-6 t c =
     let z = c .plan-reads6 .ensures in
     laws.within-reads _ h k m delay2-is later3-is later4-is q link3-is (c .before .link4 .ensures) x y z
 
-plan-reads-returns-7 : (t : ℕ) → plan-reads-lts.Need-returns-7 (plan-reads-calls t) (plan-reads-at t) plan-reads.Post
-plan-reads-returns-7 t c =
+plan-reads-returns-8 : (t : ℕ) → plan-reads-lts.Need-returns-8 (plan-reads-calls t) (plan-reads-at t) plan-reads.Post
+plan-reads-returns-8 t c =
     let h = c .before .before .before .pre .1 .0 in
     let k = c .before .before .plan-kind .ensures in
     let q = c .enum-told7 .given .1 in
@@ -341,6 +364,8 @@ plan-reads-part t =
     (plan-reads-add-rows-read t)
     (plan-reads-window-of-requires t)
     (plan-reads-rows-read-requires t)
+    (plan-reads-is-transfer-requires t)
+    (plan-reads-returns t)
     (plan-reads-sub-plan-reads t)
     (plan-reads-plan-reads-requires t)
     (λ c. search needs)
@@ -371,13 +396,13 @@ plan-reads-part t =
     (plan-reads-sub-plan-reads-6 t)
     (plan-reads-plan-reads-requires-6 t)
     (λ c. search needs)
-    (plan-reads-returns t)
     (plan-reads-returns-2 t)
     (plan-reads-returns-3 t)
     (plan-reads-returns-4 t)
     (plan-reads-returns-5 t)
     (plan-reads-returns-6 t)
     (plan-reads-returns-7 t)
+    (plan-reads-returns-8 t)
 
 pub +plan-reads-spec : {M : Type 1} → statement M
 +plan-reads-spec = close μ-plan-reads plan-reads-part
