@@ -123,7 +123,7 @@ pub fn shape_of(form: TextForm, letter: u8) -> Shape
     }
 }
 
-// A letter without fields, of either text, in one byte: its kind and the kinds of its children. 0 for any other.
+// A letter without fields, of either text, in one byte: its kind, and 4, 16 and 64 times the kinds of its children. 0 for any other.
 pub fn bare_letter(letter: u8) -> u8
     ensures { λ r. ⌜ BareIs letter r ⌝ }
 {
