@@ -16,11 +16,11 @@ use Rattle.amounts.specs.declared.four.Four.{Four}
 use Rattle.amounts.specs.declared.four.Held.{Held}
 
 -- k months after the first of the four
-unfoldable pub valueIn : Four → ℕ → ℤ
-valueIn x zero = x .a .0
-valueIn x (suc zero) = x .b .0
-valueIn x (suc (suc zero)) = x .c .0
-valueIn x (suc (suc (suc k))) = x .d .0
+unfoldable pub penceIn : Four → ℕ → ℤ
+penceIn x zero = x .a .0
+penceIn x (suc zero) = x .b .0
+penceIn x (suc (suc zero)) = x .c .0
+penceIn x (suc (suc (suc k))) = x .d .0
 
 unfoldable pub heldIn : Held → ℕ → Bool
 heldIn t zero = t .a
@@ -46,7 +46,7 @@ FineFourTest values r t = (k : ℕ) → k < 4 → FineTest values (r + k) t
 
 -- the amount in each of the four months, and whether the test holds
 abbrev pub FourAre : List ℤ → ℕ → Amount ℤ → Four → Type 0
-FourAre values r a x = (k : ℕ) → k < 4 → valueIn x k ≡ value (flat values) a (r + k)
+FourAre values r a x = (k : ℕ) → k < 4 → penceIn x k ≡ value (flat values) a (r + k)
 
 abbrev pub HeldAre : List ℤ → ℕ → Test ℤ → Held → Type 0
 HeldAre values r t x = (k : ℕ) → k < 4 → heldIn x k ≡ holds (flat values) t (r + k)

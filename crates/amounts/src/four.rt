@@ -6,7 +6,7 @@ ghost use lib.IntN.{_*ℤ_, _+ℤ_, _-ℤ_};
 ghost use lib.Signed.{ltZ};
 ghost use Rattle.integers.specs.Bounded.{Small};
 ghost use Rattle.integers.specs.Equal.{eqZ};
-ghost use Rattle.amounts.specs.FourMonths.{heldIn, valueIn};
+ghost use Rattle.amounts.specs.FourMonths.{heldIn, penceIn};
 use integers::Pence;
 
 pub struct Four {
@@ -24,8 +24,8 @@ pub struct Held {
 }
 
 pub fn plus(x: Four, y: Four) -> Four
-    requires { ⌜ ((k : ℕ) → k < 4 → Small (valueIn x k +ℤ valueIn y k)) ⌝ }
-    ensures { λ r. ⌜ ((k : ℕ) → k < 4 → valueIn r k ≡ valueIn x k +ℤ valueIn y k) ⌝ }
+    requires { ⌜ ((k : ℕ) → k < 4 → Small (penceIn x k +ℤ penceIn y k)) ⌝ }
+    ensures { λ r. ⌜ ((k : ℕ) → k < 4 → penceIn r k ≡ penceIn x k +ℤ penceIn y k) ⌝ }
 {
     Four {
         a: integers::plus(x.a, y.a),
@@ -36,8 +36,8 @@ pub fn plus(x: Four, y: Four) -> Four
 }
 
 pub fn minus(x: Four, y: Four) -> Four
-    requires { ⌜ ((k : ℕ) → k < 4 → Small (valueIn x k -ℤ valueIn y k)) ⌝ }
-    ensures { λ r. ⌜ ((k : ℕ) → k < 4 → valueIn r k ≡ valueIn x k -ℤ valueIn y k) ⌝ }
+    requires { ⌜ ((k : ℕ) → k < 4 → Small (penceIn x k -ℤ penceIn y k)) ⌝ }
+    ensures { λ r. ⌜ ((k : ℕ) → k < 4 → penceIn r k ≡ penceIn x k -ℤ penceIn y k) ⌝ }
 {
     Four {
         a: integers::minus(x.a, y.a),
@@ -48,8 +48,8 @@ pub fn minus(x: Four, y: Four) -> Four
 }
 
 pub fn times(x: Four, y: Four) -> Four
-    requires { ⌜ ((k : ℕ) → k < 4 → Small (valueIn x k *ℤ valueIn y k)) ⌝ }
-    ensures { λ r. ⌜ ((k : ℕ) → k < 4 → valueIn r k ≡ valueIn x k *ℤ valueIn y k) ⌝ }
+    requires { ⌜ ((k : ℕ) → k < 4 → Small (penceIn x k *ℤ penceIn y k)) ⌝ }
+    ensures { λ r. ⌜ ((k : ℕ) → k < 4 → penceIn r k ≡ penceIn x k *ℤ penceIn y k) ⌝ }
 {
     Four {
         a: integers::times(x.a, y.a),
@@ -60,7 +60,7 @@ pub fn times(x: Four, y: Four) -> Four
 }
 
 pub fn less(x: Four, y: Four) -> Held
-    ensures { λ r. ⌜ ((k : ℕ) → k < 4 → heldIn r k ≡ ltZ (valueIn x k) (valueIn y k)) ⌝ }
+    ensures { λ r. ⌜ ((k : ℕ) → k < 4 → heldIn r k ≡ ltZ (penceIn x k) (penceIn y k)) ⌝ }
 {
     Held {
         a: integers::less(x.a, y.a),
@@ -71,7 +71,7 @@ pub fn less(x: Four, y: Four) -> Held
 }
 
 pub fn equal(x: Four, y: Four) -> Held
-    ensures { λ r. ⌜ ((k : ℕ) → k < 4 → heldIn r k ≡ eqZ (valueIn x k) (valueIn y k)) ⌝ }
+    ensures { λ r. ⌜ ((k : ℕ) → k < 4 → heldIn r k ≡ eqZ (penceIn x k) (penceIn y k)) ⌝ }
 {
     Held {
         a: integers::equal(x.a, y.a),
@@ -125,7 +125,7 @@ fn choice(t: bool, x: Pence, y: Pence) -> Pence
 
 // The first where the test holds, else the second.
 pub fn chosen(t: Held, x: Four, y: Four) -> Four
-    ensures { λ r. ⌜ ((k : ℕ) → k < 4 → valueIn r k ≡ cond (heldIn t k) (valueIn x k) (valueIn y k)) ⌝ }
+    ensures { λ r. ⌜ ((k : ℕ) → k < 4 → penceIn r k ≡ cond (heldIn t k) (penceIn x k) (penceIn y k)) ⌝ }
 {
     Four {
         a: choice(t.a, x.a, y.a),

@@ -18,7 +18,7 @@ use Rattle.language.specs.Answer.{got, refused}
 use Rattle.language.specs.Limits.{maxLabels}
 use Rattle.language.specs.Rules.Table.{readable, valueAt}
 use Rattle.language.specs.Text.Number.{between}
-use Rattle.tables.specs.Lookup.{Inside, Kept, KeptSpan, lookedUp, placeOf, readTable, standing}
+use Rattle.tables.specs.Lookup.{Inside, Kept, KeptSpan, lookedUp, placeFor, readTable, standing}
 use Rattle.tables.specs.declared.lookup.Place.{Place}
 use Rattle.tables.specs.declared.lookup.Place.the-variants.{At, Nowhere}
 
@@ -56,13 +56,13 @@ natural (negsuc n) h = absurd h
 
 module _ (h f : ℤ) (bounds : List ℤ) (k : KeptSpan h f) (label : ℕ) (m : ℤ) where
   abbrev place : Place
-  place = placeOf h f bounds label m
+  place = placeFor h f bounds label m
 
   abbrev count : ℕ
   count = natAbs h + natAbs f + 1
 
   pub no-label : length bounds ≤ label → Nowhere ≡ place
-  unfolding placeOf
+  unfolding placeFor
   no-label l = rw (le-ltb label (length bounds) l) refl
 
   -- p is the month's distance from -h
@@ -74,7 +74,7 @@ module _ (h f : ℤ) (bounds : List ℤ) (k : KeptSpan h f) (label : ℕ) (m : �
     covers {b} c = rw (lt-ltb label (length bounds) l, natural h (k .hFrom), natural f (k .fFrom)) c
 
     pub too-early : ltZ p (pos 0) ≡ true → Nowhere ≡ place
-    unfolding placeOf
+    unfolding placeFor
     too-early c = rw (covers (before (natAbs h) (natAbs f) m (rw shifted at c))) refl
 
     module _ (c : ltZ p (pos 0) ≡ false) where
@@ -86,7 +86,7 @@ module _ (h f : ℤ) (bounds : List ℤ) (k : KeptSpan h f) (label : ℕ) (m : �
           go (negsuc n) c = absurd (true≢false c)
 
       pub too-late : count ≤ natAbs p → Nowhere ≡ place
-      unfolding placeOf
+      unfolding placeFor
       too-late d = rw (covers (behind (natAbs h) (natAbs f) m (rw shifted at c) (rw shifted at d))) refl
 
       module _ (d : natAbs p < count) where
@@ -94,7 +94,7 @@ module _ (h f : ℤ) (bounds : List ℤ) (k : KeptSpan h f) (label : ℕ) (m : �
         few n = omega (arith, mul-le-mul {n₁ = label} {m₁ = count} {n₂ = maxLabels} {m₂ = 661} (omega arith) (omega (arith, k .hTo, k .fTo)), k .hTo, k .fTo)
 
         pub stands : (i : ℕ) → i ≡ label * count + natAbs p → At i ≡ place
-        unfolding placeOf
+        unfolding placeFor
         stands i g = let r = covers (inside (natAbs h) (natAbs f) m (rw shifted at c) (rw shifted at d)) in rw r (ap At (g ∙ ap (λ z. label * count + natAbs z) e))
 
 not-below : (n : ℕ) → ltZ (pos n) (pos 0) ≡ false
@@ -119,7 +119,7 @@ module _ (h f : ℤ) (bounds : List ℤ) (s : KeptSpan h f) (label : ℕ) (m : �
   onward : (k : ℕ) → p +ℤ pos k ≡ pos (natAbs p + k)
   onward k = ap (λ z. z +ℤ pos k) (natural p (from-zero h f bounds s label m l p e c))
 
-  pub stands-on : (n : ℕ) → n ≡ natAbs h + natAbs f + 1 → natAbs p + 3 < n → (i : ℕ) → i ≡ label * n + natAbs p → (k : ℕ) → k < 4 → At (i + k) ≡ placeOf h f bounds label (m +ℤ pos k)
+  pub stands-on : (n : ℕ) → n ≡ natAbs h + natAbs f + 1 → natAbs p + 3 < n → (i : ℕ) → i ≡ label * n + natAbs p → (k : ℕ) → k < 4 → At (i + k) ≡ placeFor h f bounds label (m +ℤ pos k)
   stands-on n en d i ei k b =
       let q : natAbs (p +ℤ pos k) ≡ natAbs p + k = ap natAbs (onward k) in
       let z : ltZ (p +ℤ pos k) (pos 0) ≡ false = rw (onward k) (not-below (natAbs p + k)) in
@@ -136,8 +136,8 @@ module _ (h f : ℤ) (bounds values : List ℤ) (k : Kept h f bounds values) (la
       go (pos n) q = omega (arith, le-true m (pos b) (and-e (leZ (negℤ (pos a)) m) (leZ m (pos b)) e .1), sound (var m ⊕ lit a), ap up q, ap dn q)
       go (negsuc n) q = absurd (omega (arith, le-true (negℤ (pos a)) m (and-e (leZ (negℤ (pos a)) m) (leZ m (pos b)) e .0), sound (var m ⊕ lit a), sound (⊝ (lit a)), ap up q, ap dn q))
 
-  pub place-inside : Inside (length values) (placeOf h f bounds label m)
-  unfolding placeOf Inside
+  pub place-inside : Inside (length values) (placeFor h f bounds label m)
+  unfolding placeFor Inside
   place-inside = go (ltb label (length bounds)) (between (negℤ h) f m) refl refl
     where
       go : (s u : Bool) → ltb label (length bounds) ≡ s → between (negℤ h) f m ≡ u → Inside (length values) (cond (s && u) (At (label * (natAbs h + natAbs f + 1) + natAbs (m +ℤ h))) Nowhere)
@@ -149,8 +149,8 @@ module _ (h f : ℤ) (bounds values : List ℤ) (k : Kept h f bounds values) (la
           let n : natAbs (m +ℤ h) < natAbs h + natAbs f + 1 = subst (λ z. natAbs (m +ℤ z) < natAbs h + natAbs f + 1) (sym (natural h (k .span .hFrom))) (near (natAbs h) (natAbs f) w) in
           omega (arith, k .count, mul-le-mul-right {m = label + 1} {n = length bounds} (natAbs h + natAbs f + 1) (omega arith))
 
-  pub place-standing : standing values (placeOf h f bounds label m) ≡ lookedUp (readTable h f bounds values) label m
-  unfolding placeOf standing lookedUp valueAt
+  pub place-standing : standing values (placeFor h f bounds label m) ≡ lookedUp (readTable h f bounds values) label m
+  unfolding placeFor standing lookedUp valueAt
   place-standing = go (readable (readTable h f bounds values) label m)
     where
       go : (b : Bool) → standing values (cond b (At (label * (natAbs h + natAbs f + 1) + natAbs (m +ℤ h))) Nowhere)

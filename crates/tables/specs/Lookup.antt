@@ -31,8 +31,8 @@ readTable h f bounds values = tableOf h f [] bounds values
 -- ---- places
 
 -- where the value of label l in month m stands among the values of a table that covers months -h to f
-unfoldable pub placeOf : ℤ → ℤ → List ℤ → ℕ → ℤ → Place
-placeOf h f bounds l m = let t = readTable h f bounds [] in cond (readable t l m) (At (l * span t + natAbs (m +ℤ h))) Nowhere
+unfoldable pub placeFor : ℤ → ℤ → List ℤ → ℕ → ℤ → Place
+placeFor h f bounds l m = let t = readTable h f bounds [] in cond (readable t l m) (At (l * span t + natAbs (m +ℤ h))) Nowhere
 
 -- a place among n values
 unfoldable pub Inside : ℕ → Place → Type 0

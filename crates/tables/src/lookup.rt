@@ -6,7 +6,7 @@ ghost use lib.ListN.{getD, length};
 ghost use Rattle.integers.specs.Bounded.{Small};
 ghost use Rattle.language.specs.Limits.{maxLabels};
 ghost use Rattle.tables.specs.declared.lookup.Place.the-variants.{At};
-ghost use Rattle.tables.specs.Lookup.{Inside, Kept, KeptSpan, foundAnswer, lookedUp, placeOf, readTable, standing};
+ghost use Rattle.tables.specs.Lookup.{Inside, Kept, KeptSpan, foundAnswer, lookedUp, placeFor, readTable, standing};
 use crate::Span;
 use integers::Month;
 use integers::Pence;
@@ -30,9 +30,9 @@ pub fn months(span: Span) -> usize
     span.h as usize + span.f as usize + 1
 }
 
-pub fn place_of(bounds: &[i64], span: Span, label: usize, month: Month) -> Place
+pub fn find_place(bounds: &[i64], span: Span, label: usize, month: Month) -> Place
     requires { ⌜ KeptSpan (span .h) (span .f) × (length (now bounds) ≤ maxLabels) × Small (month .0) ⌝ }
-    ensures { λ r. ⌜ r ≡ placeOf (span .h) (span .f) (now (bounds .entry)) label (month .0) ⌝ }
+    ensures { λ r. ⌜ r ≡ placeFor (span .h) (span .f) (now (bounds .entry)) label (month .0) ⌝ }
 {
     let back = Month(span.h);
     let n = months(span);
@@ -54,7 +54,7 @@ pub fn place_of(bounds: &[i64], span: Span, label: usize, month: Month) -> Place
 // The place in the first of four months in a row, where all four are in the table.
 pub fn four_places(bounds: &[i64], span: Span, label: usize, month: Month) -> Place
     requires { ⌜ KeptSpan (span .h) (span .f) × (length (now bounds) ≤ maxLabels) × Small (month .0) ⌝ }
-    ensures { λ r. ⌜ ((i : ℕ) → r ≡ At i → (k : ℕ) → k < 4 → At (i + k) ≡ placeOf (span .h) (span .f) (now (bounds .entry)) label (month .0 +ℤ pos k)) ⌝ }
+    ensures { λ r. ⌜ ((i : ℕ) → r ≡ At i → (k : ℕ) → k < 4 → At (i + k) ≡ placeFor (span .h) (span .f) (now (bounds .entry)) label (month .0 +ℤ pos k)) ⌝ }
 {
     let back = Month(span.h);
     let n = months(span);
@@ -99,5 +99,5 @@ pub fn labelled(values: &[i64], bounds: &[i64], span: Span, label: usize, month:
     requires { ⌜ Kept (span .h) (span .f) (now bounds) (now values) × Small (month .0) ⌝ }
     ensures { λ r. ⌜ foundAnswer r ≡ lookedUp (readTable (span .h) (span .f) (now (bounds .entry)) (now (values .entry))) label (month .0) ⌝ }
 {
-    lookup(values, place_of(bounds, span, label, month))
+    lookup(values, find_place(bounds, span, label, month))
 }

@@ -16,7 +16,7 @@ use Rattle.language.specs.Payoff.Evaluate.{inRange}
 use Rattle.language.specs.Text.Trees.{Amount}
 use Rattle.nodes.specs.Table.{natOf}
 use Rattle.tables.proofs.Lookups.{place-inside, place-standing}
-use Rattle.tables.specs.Lookup.{Inside, lookedUp, placeOf, readTable, standing}
+use Rattle.tables.specs.Lookup.{Inside, lookedUp, placeFor, readTable, standing}
 use Rattle.tables.specs.declared.lookup.Place.the-variants.{At}
 use Rattle.worths.proofs.Bounds.{valued-small}
 use Rattle.worths.proofs.Combined.{amount-within, both-got}
@@ -50,7 +50,7 @@ first-waited h = record { known = h .known; within = omega (arith, h .within) }
 
 -- the code's label k and month m; j is the first of four places
 module _ (h f : ℤ) (bounds values : List ℤ) (R : Readable h f bounds values) (w i : ℤ) (hw : FourWaited w) (hi : Near i)
-    {k l : ℕ} (ek : k ≡ l) {m x : ℤ} (em : m ≡ w +ℤ x) (ex : x ≡ i) (j : ℕ) (at : (n : ℕ) → n < 4 → At (j + n) ≡ placeOf h f bounds k (m +ℤ pos n)) where
+    {k l : ℕ} (ek : k ≡ l) {m x : ℤ} (em : m ≡ w +ℤ x) (ex : x ≡ i) (j : ℕ) (at : (n : ℕ) → n < 4 → At (j + n) ≡ placeFor h f bounds k (m +ℤ pos n)) where
   pub four-inside : j + 3 < length values
   unfolding Inside
   four-inside = subst (Inside (length values)) (sym (at 3 (omega arith))) (place-inside h f bounds values (R .kept) k (m +ℤ pos 3))

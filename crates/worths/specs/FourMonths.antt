@@ -22,7 +22,7 @@ oneOf a b c d (suc (suc zero)) = c
 oneOf a b c d (suc (suc (suc k))) = d
 
 abbrev pub amountIn : FourValues → ℕ → ℤ
-amountIn x k = four.valueIn (x .four) k
+amountIn x k = four.penceIn (x .four) k
 
 abbrev pub truthIn : FourTests → ℕ → Bool
 truthIn x k = four.heldIn (x .held) k

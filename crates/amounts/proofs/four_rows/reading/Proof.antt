@@ -9,7 +9,7 @@ use Rattle.amounts.proofs.FourMonths.{each, few-small, four-is, four-mo
 use Rattle.amounts.proofs.four_rows.reading.Statement.{statement}
 use Rattle.amounts.proofs.four_rows.reading.Tie as tie
 use Rattle.amounts.specs.Fine.{Reading}
-use Rattle.amounts.specs.FourMonths.{valueIn}
+use Rattle.amounts.specs.FourMonths.{penceIn}
 
 later-requires : tie.Need-later-requires
 later-requires c κs = (four-small _ (c .pre .1), few-small 0 (omega arith))
@@ -60,7 +60,7 @@ reading-requires-4 c κs =
     )
 
 returns : tie.Need-returns
-unfolding valueIn
+unfolding penceIn
 returns c =
     let s = c .before .before .before .before .before .before .before .before in
     let at : ℕ → ℤ = λ r. getD (s .args .values .now) (natAbs (pos r +ℤ slotAt (s .args .nodes .now) (s .args .at) 2)) (pos 0) in

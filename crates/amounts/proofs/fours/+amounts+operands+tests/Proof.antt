@@ -15,7 +15,7 @@ use Rattle.amounts.proofs.FourMonths.{each}
 use Rattle.amounts.proofs.Nodes.{AmountNode, TestNode, amount-inside, amount-node, index-key, number-key, test-inside, test-node}
 use Rattle.amounts.proofs.TestArms as test-arms
 use Rattle.amounts.specs.Fine.{Fine, FineTest}
-use Rattle.amounts.specs.FourMonths.{heldIn, valueIn}
+use Rattle.amounts.specs.FourMonths.{heldIn, penceIn}
 use Prim.Native.Nat.{_*_, _+_, _<_, ℕ}
 use borrow.Fn.Kinds.{In}
 use borrow.Fn.PlainCycle.{Measures, is, falls, and}
@@ -317,7 +317,7 @@ amounts-returns-7 t c =
     λ k m. amount-arms.choose-arm _ _ _ _ _ (n k m) _ (c .before .before .before .before .before .tests .ensures k m) _ _ _ _ _ (c .before .before .before .before .link4 .ensures) (c .before .before .before .operands8 .ensures k m) (c .before .before .link5 .ensures) (c .before .operands9 .ensures k m) (c .chosen .ensures k m)
 
 amounts-returns-8 : (t : ℕ) → amounts-lts.Need-returns-8 (amounts-calls t) (amounts-at t) amounts.Post
-unfolding valueIn
+unfolding penceIn
 amounts-returns-8 t c =
     let n = amounts-here t (c .before .before) amount.NoAmount (c .enum-told8 .given .1) in
     each _ (amount-arms.no-amount-arm _ _ _ _ _ (n 0 (omega arith))) (amount-arms.no-amount-arm _ _ _ _ _ (n 1 (omega arith))) (amount-arms.no-amount-arm _ _ _ _ _ (n 2 (omega arith))) (amount-arms.no-amount-arm _ _ _ _ _ (n 3 (omega arith)))

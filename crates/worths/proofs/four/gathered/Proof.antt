@@ -1,7 +1,7 @@
 use borrow.Author.Needs.{needs}
 use mathlib.Core.Path.{ap, sym}
 use Rattle.amounts.proofs.FourMonths.{each}
-use Rattle.amounts.specs.FourMonths.{valueIn}
+use Rattle.amounts.specs.FourMonths.{penceIn}
 use Rattle.worths.specs.Answers.{valuedAnswer}
 use Rattle.worths.specs.FourMonths.{oneOf}
 use Rattle.worths.proofs.four.gathered.Statement.{statement}
@@ -20,7 +20,7 @@ returns-4 : tie.Need-returns-4
 returns-4 c = λ e. absurd (c .unsure4 .ensures e)
 
 returns-5 : tie.Need-returns-5
-unfolding valueIn oneOf
+unfolding penceIn oneOf
 returns-5 c = λ e. each _ (ap valuedAnswer (sym (c .before .before .before .before .before .before .before .before .before .before .x .given .1))) (ap valuedAnswer (sym (c .before .before .before .before .before .before .before .y .given .1))) (ap valuedAnswer (sym (c .before .before .before .before .z .given .1))) (ap valuedAnswer (sym (c .before .u .given .1)))
 
 pub gathered-spec : {M : Type 1} → statement M

@@ -3,7 +3,7 @@ use borrow.Author.Tests.{eqb-true}
 use lib.IntN.{_*ℤ_}
 use native.Mathlib.Omega.{arith}
 use Rattle.amounts.proofs.FourMonths.{each}
-use Rattle.amounts.specs.FourMonths.{valueIn}
+use Rattle.amounts.specs.FourMonths.{penceIn}
 use Rattle.language.proofs.Truth.{and-e}
 use Rattle.worths.proofs.FourLaws.{joined}
 use Rattle.worths.specs.FourMonths.{oneOf}
@@ -11,31 +11,31 @@ use Rattle.worths.proofs.four.product_of.Statement.{statement}
 use Rattle.worths.proofs.four.product_of.Tie as tie
 
 product-requires : tie.Need-product-requires
-unfolding valueIn
+unfolding penceIn
 product-requires c κs =
     let b = and-e _ _ (c .if1 .taken) in
     (c .before .before .before .pre .0 (eqb-true _ _ (b .0)) 0 (omega arith), c .before .before .before .pre .1 (eqb-true _ _ (b .1)) 0 (omega arith))
 
 product-requires-2 : tie.Need-product-requires-2
-unfolding valueIn
+unfolding penceIn
 product-requires-2 c κs =
     let b = and-e _ _ (c .before .before .if1 .taken) in
     (c .before .before .before .before .before .pre .0 (eqb-true _ _ (b .0)) 1 (omega arith), c .before .before .before .before .before .pre .1 (eqb-true _ _ (b .1)) 1 (omega arith))
 
 product-requires-3 : tie.Need-product-requires-3
-unfolding valueIn
+unfolding penceIn
 product-requires-3 c κs =
     let b = and-e _ _ (c .before .before .before .before .if1 .taken) in
     (c .before .before .before .before .before .before .before .pre .0 (eqb-true _ _ (b .0)) 2 (omega arith), c .before .before .before .before .before .before .before .pre .1 (eqb-true _ _ (b .1)) 2 (omega arith))
 
 product-requires-4 : tie.Need-product-requires-4
-unfolding valueIn
+unfolding penceIn
 product-requires-4 c κs =
     let b = and-e _ _ (c .before .before .before .before .before .before .if1 .taken) in
     (c .before .before .before .before .before .before .before .before .before .pre .0 (eqb-true _ _ (b .0)) 3 (omega arith), c .before .before .before .before .before .before .before .before .before .pre .1 (eqb-true _ _ (b .1)) 3 (omega arith))
 
 returns : tie.Need-returns
-unfolding valueIn oneOf
+unfolding penceIn oneOf
 returns c =
     let b = and-e _ _ (c .before .before .before .before .before .before .before .before .before .if1 .taken) in
     λ e. (

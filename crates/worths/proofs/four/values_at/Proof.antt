@@ -3,7 +3,7 @@ use Prim.Native.Nat.{_+_}
 use mathlib.Core.Path.{_∙_, _≡_, ap}
 use native.Mathlib.Omega.{arith}
 use Rattle.amounts.proofs.FourMonths.{each}
-use Rattle.amounts.specs.FourMonths.{valueIn}
+use Rattle.amounts.specs.FourMonths.{penceIn}
 use Rattle.language.specs.Answer.{got}
 use Rattle.tables.specs.Lookup.{standing}
 use Rattle.tables.specs.declared.lookup.Place.the-variants.{At}
@@ -11,7 +11,7 @@ use Rattle.worths.proofs.four.values_at.Statement.{statement}
 use Rattle.worths.proofs.four.values_at.Tie as tie
 
 returns : tie.Need-returns
-unfolding valueIn standing
+unfolding penceIn standing
 returns c =
     let a = c .before .before .before .before .args in
     let z : a .i ≡ a .i + 0 = omega arith in

@@ -8,8 +8,8 @@ use mir.Val.{SFits}
 use native.Mathlib.Omega.{arith}
 use Rattle.nodes.proofs.Signed.{index-cast}
 use Rattle.tables.proofs.Lookups.{few, from-zero, no-label, stands, too-early, too-late}
-use Rattle.tables.proofs.lookup.place_of.Statement.{statement}
-use Rattle.tables.proofs.lookup.place_of.Tie as tie
+use Rattle.tables.proofs.lookup.find_place.Statement.{statement}
+use Rattle.tables.proofs.lookup.find_place.Tie as tie
 
 months-requires : tie.Need-months-requires
 months-requires c κs = c .before .pre .0
@@ -89,5 +89,5 @@ returns-4 c =
     let d : natAbs (p .result .0) < natAbs (a .span .h) + natAbs (a .span .f) + 1 = omega (arith, c .if3 .left, c .before .before .before .before .before .before .before .before .months .ensures, ap natAbs (toZ-ofZ g)) in
     stands (a .span .h) (a .span .f) (a .bounds .now) (s .pre .0) (a .label) (a .month .0) (omega (arith, c .before .before .before .before .before .before .if1 .left)) _ e (rw (toZ-ofZ g) at (c .before .before .before .if2 .left)) d _ (ap₂ (λ y z. a .label * y + natAbs z) (c .before .before .before .before .before .before .before .before .months .ensures) (toZ-ofZ g))
 
-pub place-of-spec : {M : Type 1} → statement M
-place-of-spec = tie.close (tie.spec months-requires later-requires returns returns-2 cast-at returns-3 mul-i add-i returns-4)
+pub find-place-spec : {M : Type 1} → statement M
+find-place-spec = tie.close (tie.spec months-requires later-requires returns returns-2 cast-at returns-3 mul-i add-i returns-4)
