@@ -121,7 +121,7 @@ pub enum Stepping {
     Refused(Refusal),
 }
 
-// The step of a plan that was read: accepted first, then what it pays today, and the plan for tomorrow from a second table.
+// The step of a plan that was read: accepted first, then what it pays today and, in a second table, the plan for tomorrow.
 pub fn stepped(
     nodes: &mut [i64; 2560],
     count: usize,
@@ -158,21 +158,22 @@ pub fn stepped(
     match checking {
         Checking::Accepted(length, magnitude) => {
             places::place_rows(nodes, count, span);
-            let pence = pays::due::plan_due(nodes, values, today, pair, 0, 32);
             let mut next = [0i64; 2560];
-            let n = steps::step_plan(
+            let answer = steps::step_plan(
                 nodes,
                 values,
                 bounds,
                 span,
                 today,
+                pair,
                 &mut next,
                 0,
                 0,
                 count,
                 32,
             );
-            let written = writer::write_text(&next, n, out);
+            let pence = answer.pence;
+            let written = writer::write_text(&next, answer.next, out);
             match written {
                 Written::Bytes(bytes) => Stepping::Stepped(pence, bytes),
                 Written::NoRoom => Stepping::Refused(Refusal::NoRoom),

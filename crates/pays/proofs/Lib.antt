@@ -1,6 +1,5 @@
 -- Laws of a plan's payments.
 pub mod Asked
-pub mod DueArms
 pub mod FinePlans
 pub mod PayArms
 pub mod Pennies

@@ -14,7 +14,6 @@ use integers::Pence;
 use nodes::PlanLetter;
 use until::Until;
 
-pub mod due;
 pub mod rows;
 pub mod transfer;
 pub mod until;

@@ -1,7 +1,6 @@
 // A row's letter and its delay.
 ghost use mathlib.Core.Path.{_≡_};
 ghost use Prim.Native.Nat.{_<_};
-ghost use lib.Dec.{eqb};
 ghost use lib.IntN.{pos};
 ghost use Rattle.nodes.specs.Letters.{planLetter};
 ghost use Rattle.nodes.specs.Table.{natOf, slotAt};
@@ -25,12 +24,4 @@ pub fn delay(nodes: &[i64; 2560], at: usize) -> Month
         return Month(0);
     }
     Month(d)
-}
-
-// No month of the delay is left, so what it delays is due now.
-pub fn is_due(nodes: &[i64; 2560], at: usize) -> bool
-    requires { ⌜ at < 512 ⌝ }
-    ensures { λ r. ⌜ r ≡ eqb (natOf (slotAt (now (nodes .entry)) at 1)) 0 ⌝ }
-{
-    nodes::slot(nodes, at, 1) <= 0
 }

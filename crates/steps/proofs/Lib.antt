@@ -1,5 +1,6 @@
 -- Laws of the month step in the node table.
 pub mod Changes
+pub mod DueArms
 pub mod Looked
 pub mod Restored
 pub mod RowSteps

@@ -42,7 +42,7 @@ use Rattle.tables.specs.Lookup.{Kept, readTable}
 use Rattle.steps.proofs.StepParts.{both-lie, first-steps, held-steps, later-lies, later-slots, later-steps, missed-steps, same-letter, scale-lies, scale-steps, second-steps, within-lies, within-slots, within-test}
 
 -- a delay, as the code reads it, that is due or is not
-none-left : {d : ℤ} {n : ℕ} → d ≡ pos n → leZ d (pos 0) ≡ true → n ≡ 0
+pub none-left : {d : ℤ} {n : ℕ} → d ≡ pos n → leZ d (pos 0) ≡ true → n ≡ 0
 none-left {d} {n} ed e = omega (arith, leb-true n 0 (rw ed at e))
 
 pub some-left-of : {d : ℤ} {n : ℕ} → d ≡ pos n → leZ d (pos 0) ≡ false → 0 < n

@@ -1,25 +1,36 @@
 // The month step: the plan for tomorrow, from the table in which index readings are resolved into a second table.
 ghost use Prim.Native.Nat.{_*_, _+_, _-_, _<_, _≤_};
+ghost use lib.IntN.{pos};
 ghost use lib.ListN.{length};
+ghost use mathlib.Core.Path.{_≡_};
 ghost use Rattle.amounts.specs.Fine.{MonthIn};
+ghost use Rattle.amounts.specs.Flat.{flat};
 ghost use Rattle.copies.specs.Appended.{Appended};
 ghost use Rattle.copies.specs.Copied.{Copied};
 ghost use Rattle.copies.specs.Plain.{plainRows};
 ghost use Rattle.language.specs.Payments.Step.{step};
-ghost use Rattle.language.specs.Calls.{lookupOf};
+ghost use Rattle.language.specs.Calls.{lookupOf, signOf};
+ghost use Rattle.language.specs.Payments.Pays.{pays};
 ghost use Rattle.language.specs.Rules.Settings.{closed};
 ghost use Rattle.language.specs.Text.Letters.{planForm};
 ghost use Rattle.language.specs.Text.Plans.{planTrees};
 ghost use Rattle.language.specs.Text.Reader.{end};
+ghost use Rattle.nodes.specs.Found.{planAt};
+ghost use Rattle.nodes.specs.Stands.{PlanStands};
 ghost use Rattle.nodes.specs.Table.{natOf, slotAt};
+ghost use Rattle.pays.specs.FinePlan.{FinePlan};
+ghost use Rattle.pays.specs.Parties.{PairIn};
 ghost use Rattle.places.specs.Place.{SpanIn};
 ghost use Rattle.steps.specs.Offsets.{restoreRow, stepRow};
 ghost use Rattle.steps.specs.Ready.{Ready};
 ghost use Rattle.steps.specs.Waits.{Waits};
 ghost use Rattle.tables.specs.Lookup.{Kept, readTable};
 use integers::Month;
+use integers::Pence;
 use measures::node;
 use nodes::PlanLetter;
+use pays::Pair;
+use pays::transfer;
 use tables::Span;
 
 pub mod offsets;
@@ -70,7 +81,13 @@ pub fn step_rows(
     next
 }
 
-// A waiting node and all that stands beneath it: the delay falls by one.
+// What the pair pays today, and how many rows of the plan for tomorrow are written.
+pub struct Today {
+    pub pence: Pence,
+    pub next: usize,
+}
+
+// A waiting node and all that stands beneath it: the delay falls by one, and nothing is paid yet.
 fn keep_waiting(
     nodes: &[i64; 2560],
     span: Span,
@@ -78,57 +95,91 @@ fn keep_waiting(
     count: usize,
     at: usize,
     to: usize,
-) -> usize
+) -> Today
     requires { ⌜ SpanIn (span .h) (span .f) × (at < to) × (to ≤ 512) × (0 < natOf (slotAt (now nodes) at 1)) × (5 * (count + (to - at)) ≤ length (now out)) ⌝ }
-    ensures { λ r. ⌜ Waits (span .h) (span .f) (now (nodes .entry)) at to (now (out .entry)) (now (out .exit)) count r ⌝ }
+    ensures { λ r. ⌜ (r .pence .0 ≡ pos 0) × Waits (span .h) (span .f) (now (nodes .entry)) at to (now (out .entry)) (now (out .exit)) count (r .next) ⌝ }
 {
-    let next = rows::put_delay(
+    let nothing_yet = Pence(0);
+    let head = rows::put_delay(
         nodes,
         out,
         count,
         at,
         offsets::earlier(node::delay(nodes, at)),
     );
-    restore_rows(nodes, span, out, next, at + 1, to)
+    Today {
+        pence: nothing_yet,
+        next: restore_rows(nodes, span, out, head, at + 1, to),
+    }
 }
 
-// The step of the plan that stands in the rows from node `at` up to node `to`, its root in month `today`.
+// The step of the plan that stands in the rows from node `at` up to node `to`, its root in month `today`, and what it pays in that
+// month. Both are found in one walk, so a test is tried once; what starts later pays nothing yet.
 pub fn step_plan(
     nodes: &[i64; 2560],
     values: &[i64],
     bounds: &[i64],
     span: Span,
     today: Month,
+    pair: Pair,
     out: &mut [i64],
     count: usize,
     at: usize,
     to: usize,
     left: usize,
-) -> usize
-    requires { ⌜ MonthIn (today .0) × Ready (span .h) (span .f) (now bounds) (now values) (natOf (today .0)) (now nodes) at to left × (5 * (count + (to - at)) ≤ length (now out)) ⌝ }
-    ensures { λ r. ⌜ (r + at ≤ count + to) × ((y : Ready (span .h) (span .f) (now (bounds .entry)) (now (values .entry)) (natOf (today .0)) (now (nodes .entry)) at to left)
-        → Appended (now (out .entry)) (now (out .exit)) count r (plainRows planForm (planTrees (closed (step (lookupOf (readTable (span .h) (span .f) (now (bounds .entry)) (now (values .entry)))) (natOf (today .0)) (y .plan))) end))) ⌝ }
+) -> Today
+    requires { ⌜ MonthIn (today .0) × PairIn (pair .p) (pair .q) × Ready (span .h) (span .f) (now bounds) (now values) (natOf (today .0)) (now nodes) at to left × (5 * (count + (to - at)) ≤ length (now out))
+        × PlanStands left (now nodes) at × FinePlan (now values) (signOf (pair .p) (pair .q)) (planAt natOf left (now nodes) at) (natOf (today .0)) (natOf (today .0)) ⌝ }
+    ensures { λ r. ⌜ (r .pence .0 ≡ pays (flat (now (values .entry))) (signOf (pair .p) (pair .q)) (planAt natOf left (now (nodes .entry)) at) (natOf (today .0)) (natOf (today .0)))
+        × (r .next + at ≤ count + to) × ((y : Ready (span .h) (span .f) (now (bounds .entry)) (now (values .entry)) (natOf (today .0)) (now (nodes .entry)) at to left)
+        → Appended (now (out .entry)) (now (out .exit)) count (r .next) (plainRows planForm (planTrees (closed (step (lookupOf (readTable (span .h) (span .f) (now (bounds .entry)) (now (values .entry)))) (natOf (today .0)) (y .plan))) end))) ⌝ }
 {
     let letter = node::plan_kind(nodes, at);
     match letter {
-        PlanLetter::Nothing => copies::put_letter(out, count, 90),
-        PlanLetter::Transfer => copies::put_letter(out, count, 90),
+        PlanLetter::Nothing => {
+            let next = copies::put_letter(out, count, 90);
+            Today {
+                pence: Pence(0),
+                next,
+            }
+        }
+        PlanLetter::Transfer => {
+            let pence = transfer::penny(nodes, at, pair);
+            let next = copies::put_letter(out, count, 90);
+            Today { pence, next }
+        }
         PlanLetter::Scale => {
             let second = nodes::link(nodes, at, 3);
-            let a = copies::put_letter(out, count, 83);
-            let b = step_rows(nodes, values, bounds, span, today, out, a, at + 1, second);
-            step_plan(
+            let a = amounts::amount_value(nodes, values, today, at + 1, 512);
+            let head = copies::put_letter(out, count, 83);
+            let below = step_rows(
                 nodes,
                 values,
                 bounds,
                 span,
                 today,
                 out,
-                b,
+                head,
+                at + 1,
+                second,
+            );
+            let x = step_plan(
+                nodes,
+                values,
+                bounds,
+                span,
+                today,
+                pair,
+                out,
+                below,
                 second,
                 to,
                 left - 1,
-            )
+            );
+            Today {
+                pence: integers::times(a, x.pence),
+                next: x.next,
+            }
         }
         PlanLetter::Later => {
             let d = node::delay(nodes, at);
@@ -139,6 +190,7 @@ pub fn step_plan(
                     bounds,
                     span,
                     today,
+                    pair,
                     out,
                     count,
                     at + 1,
@@ -151,31 +203,37 @@ pub fn step_plan(
         }
         PlanLetter::Both => {
             let second = nodes::link(nodes, at, 3);
-            let a = copies::put_letter(out, count, 66);
-            let b = step_plan(
+            let head = copies::put_letter(out, count, 66);
+            let x = step_plan(
                 nodes,
                 values,
                 bounds,
                 span,
                 today,
+                pair,
                 out,
-                a,
+                head,
                 at + 1,
                 second,
                 left - 1,
             );
-            step_plan(
+            let y = step_plan(
                 nodes,
                 values,
                 bounds,
                 span,
                 today,
+                pair,
                 out,
-                b,
+                x.next,
                 second,
                 to,
                 left - 1,
-            )
+            );
+            Today {
+                pence: integers::plus(x.pence, y.pence),
+                next: y.next,
+            }
         }
         PlanLetter::Within => {
             let second = nodes::link(nodes, at, 3);
@@ -187,6 +245,7 @@ pub fn step_plan(
                     bounds,
                     span,
                     today,
+                    pair,
                     out,
                     count,
                     second,
@@ -202,6 +261,7 @@ pub fn step_plan(
                         bounds,
                         span,
                         today,
+                        pair,
                         out,
                         count,
                         third,
@@ -213,6 +273,9 @@ pub fn step_plan(
                 }
             }
         }
-        PlanLetter::NoPlan => count,
+        PlanLetter::NoPlan => Today {
+            pence: Pence(0),
+            next: count,
+        },
     }
 }

@@ -23,33 +23,25 @@ place-rows-requires c κs =
     let e : length (c .before .before .before .before .accept .last .0) ≡ 2560 = search needs in
     (omega (arith, standing-rows (s .pre .0 .standing)), span-in w, rows-in w)
 
-plan-due-requires : tie.Need-plan-due-requires
-plan-due-requires c κs =
-    let s = c .before .before .before .before .before .before .before .before .before in
-    let a = s .args in
-    let w = placing (a .pair .p) (a .pair .q) (c .before .before .before .before .before .before .accept .ensures) (s .pre .1) (c .before .before .before .before .checking .given .1) (s .pre .0 .standing) in
-    let r = c .before .place-rows in
-    (today-is w, pair-is w, stands w (r .last .0) (r .ensures), fine w (r .last .0) (r .ensures))
-
 slice-aggregate-step-plan : tie.Need-slice-aggregate-step-plan
 slice-aggregate-step-plan c = search needs
 
 step-plan-requires : tie.Need-step-plan-requires
 step-plan-requires c κs =
-    let s = c .before .before .before .before .before .before .before .before .before .before .before .before in
+    let s = c .before .before .before .before .before .before .before .before .before .before in
     let a = s .args in
-    let w = placing (a .pair .p) (a .pair .q) (c .before .before .before .before .before .before .before .before .before .accept .ensures) (s .pre .1) (c .before .before .before .before .before .before .before .checking .given .1) (s .pre .0 .standing) in
-    let r = c .before .before .before .before .place-rows in
-    (today-is w, ready w (r .last .0) (r .ensures), omega (arith, standing-rows (s .pre .0 .standing)))
+    let w = placing (a .pair .p) (a .pair .q) (c .before .before .before .before .before .before .before .accept .ensures) (s .pre .1) (c .before .before .before .before .before .checking .given .1) (s .pre .0 .standing) in
+    let r = c .before .before .place-rows in
+    (today-is w, pair-is w, ready w (r .last .0) (r .ensures), omega (arith, standing-rows (s .pre .0 .standing)), stands w (r .last .0) (r .ensures), fine w (r .last .0) (r .ensures))
 
 slice-aggregate-write-text : tie.Need-slice-aggregate-write-text
 slice-aggregate-write-text c = search needs
 
 write-text-requires : tie.Need-write-text-requires
 write-text-requires c κs =
-    let s = c .before .before .before .before .before .before .before .before .before .before .before .before .before .before .before .before in
-    let n = c .before .before .before .step-plan .ensures .0 in
-    let e : length (c .before .before .before .step-plan .last .1 .1 .1 .1 .1 .0) ≡ 2560 = search needs in
+    let s = c .before .before .before .before .before .before .before .before .before .before .before .before .before .before .before in
+    let n = c .before .before .before .before .step-plan .ensures .1 in
+    let e : length (c .before .before .before .before .step-plan .last .1 .1 .1 .1 .1 .1 .0) ≡ 2560 = search needs in
     (omega (arith, standing-rows (s .pre .0 .standing), n), omega (arith, standing-rows (s .pre .0 .standing), n))
 
 enum-known-written : tie.Need-enum-known-written
@@ -66,15 +58,15 @@ same-length c = search needs
 
 returns : tie.Need-returns
 returns c x y =
-    let s = c .before .before .before .before .before .before .before .before .before .before .before .before .before .before .before .before .before .before .before .before .before .before in
+    let s = c .before .before .before .before .before .before .before .before .before .before .before .before .before .before .before .before .before .before .before .before .before in
     let a = s .args in
-    let w = placing (a .pair .p) (a .pair .q) (c .before .before .before .before .before .before .before .before .before .before .before .before .before .before .before .before .before .before .before .accept .ensures) (s .pre .1) (c .before .before .before .before .before .before .before .before .before .before .before .before .before .before .before .before .before .checking .given .1) y in
-    let r = c .before .before .before .before .before .before .before .before .before .before .before .before .before .before .place-rows in
-    let k = c .before .before .before .before .before .before .before .before .before .step-plan in
+    let w = placing (a .pair .p) (a .pair .q) (c .before .before .before .before .before .before .before .before .before .before .before .before .before .before .before .before .before .before .accept .ensures) (s .pre .1) (c .before .before .before .before .before .before .before .before .before .before .before .before .before .before .before .before .checking .given .1) y in
+    let r = c .before .before .before .before .before .before .before .before .before .before .before .before .before .place-rows in
+    let k = c .before .before .before .before .before .before .before .before .before .before .step-plan in
     let o = c .before .before .before .before .before .write-text in
-    let v = pence-are w (r .last .0) (r .ensures) (c .before .before .before .before .before .before .before .before .before .before .before .before .plan-due .ensures) in (
-      buffer-is w (r .last .0) (r .ensures) _ _ _ (k .ensures .1) (a .out .now) (o .ensures .0),
-      with-bytes (c .before .before .before .before .before .before .before .before .before .before .before .before .plan-due .result) _ ∙ answer-is w (r .last .0) (r .ensures) _ _ _ (k .ensures .1) (a .out .now) v _ (ap writtenAnswer (sym (c .before .written .given .1)) ∙ o .ensures .1),
+    let v = pence-are w (r .last .0) (r .ensures) (k .ensures .0) in (
+      buffer-is w (r .last .0) (r .ensures) _ _ _ (k .ensures .2) (a .out .now) (o .ensures .0),
+      with-bytes (k .result .pence) _ ∙ answer-is w (r .last .0) (r .ensures) _ _ _ (k .ensures .2) (a .out .now) v _ (ap writtenAnswer (sym (c .before .written .given .1)) ∙ o .ensures .1),
     )
 
 same-length-2 : tie.Need-same-length-2
@@ -82,15 +74,15 @@ same-length-2 c = search needs
 
 returns-2 : tie.Need-returns-2
 returns-2 c x y =
-    let s = c .before .before .before .before .before .before .before .before .before .before .before .before .before .before .before .before .before .before .before .before .before in
+    let s = c .before .before .before .before .before .before .before .before .before .before .before .before .before .before .before .before .before .before .before .before in
     let a = s .args in
-    let w = placing (a .pair .p) (a .pair .q) (c .before .before .before .before .before .before .before .before .before .before .before .before .before .before .before .before .before .before .accept .ensures) (s .pre .1) (c .before .before .before .before .before .before .before .before .before .before .before .before .before .before .before .before .checking .given .1) y in
-    let r = c .before .before .before .before .before .before .before .before .before .before .before .before .before .place-rows in
-    let k = c .before .before .before .before .before .before .before .before .step-plan in
+    let w = placing (a .pair .p) (a .pair .q) (c .before .before .before .before .before .before .before .before .before .before .before .before .before .before .before .before .before .accept .ensures) (s .pre .1) (c .before .before .before .before .before .before .before .before .before .before .before .before .before .before .before .checking .given .1) y in
+    let r = c .before .before .before .before .before .before .before .before .before .before .before .before .place-rows in
+    let k = c .before .before .before .before .before .before .before .before .before .step-plan in
     let o = c .before .before .before .before .write-text in
-    let v = pence-are w (r .last .0) (r .ensures) (c .before .before .before .before .before .before .before .before .before .before .before .plan-due .ensures) in (
-      buffer-is w (r .last .0) (r .ensures) _ _ _ (k .ensures .1) (a .out .now) (o .ensures .0),
-      without-room (c .before .before .before .before .before .before .before .before .before .before .before .plan-due .result) ∙ answer-is w (r .last .0) (r .ensures) _ _ _ (k .ensures .1) (a .out .now) v _ (ap writtenAnswer (sym (c .enum-told .given .1)) ∙ o .ensures .1),
+    let v = pence-are w (r .last .0) (r .ensures) (k .ensures .0) in (
+      buffer-is w (r .last .0) (r .ensures) _ _ _ (k .ensures .2) (a .out .now) (o .ensures .0),
+      without-room (k .result .pence) ∙ answer-is w (r .last .0) (r .ensures) _ _ _ (k .ensures .2) (a .out .now) v _ (ap writtenAnswer (sym (c .enum-told .given .1)) ∙ o .ensures .1),
     )
 
 returns-3 : tie.Need-returns-3
@@ -108,7 +100,6 @@ stepped-spec =
     accept-requires
     enum-known-checking
     place-rows-requires
-    plan-due-requires
     slice-aggregate-step-plan
     step-plan-requires
     slice-aggregate-write-text

@@ -30,11 +30,13 @@ same-length c = search needs
 returns : tie.Need-returns
 returns c =
     let p = c .before .before .before .before .put-delay .ensures in
-    let q = c .before .restore-rows .ensures in
-    record {
-      counted = omega (arith, q .counted, p .ends, c .before .before .before .before .before .before .before .before .pre .1);
-      added = appended-then (appended-as (row-of refl (c .before .before .before .before .before .earlier .ensures ∙ ap predℤ (c .before .before .before .before .before .before .delay .ensures)) refl refl refl) p) (q .added);
-    }
+    let q = c .before .restore-rows .ensures in (
+      refl,
+      record {
+        counted = omega (arith, q .counted, p .ends, c .before .before .before .before .before .before .before .before .pre .1);
+        added = appended-then (appended-as (row-of refl (c .before .before .before .before .before .earlier .ensures ∙ ap predℤ (c .before .before .before .before .before .before .delay .ensures)) refl refl refl) p) (q .added);
+      },
+    )
 
 pub keep-waiting-spec : {M : Type 1} → statement M
 keep-waiting-spec =

@@ -1,9 +1,8 @@
 -- What a plan pays in the month of its root: a part that starts in this month pays as ever, one that starts later pays nothing yet.
-use Prim.Native.Nat.{_+_, suc, zero, ℕ}
-use borrow.Author.Tests.{eq-eqb, eqb-true}
-use lib.Dec.{eqb}
+use Prim.Native.Nat.{_+_, _<_, suc, zero, ℕ}
+use borrow.Author.Tests.{eq-eqb}
 use lib.IntN.{pos, ℤ}
-use mathlib.Core.Bool.{Bool, cond, false, true, true≢false}
+use mathlib.Core.Bool.{Bool, cond, false, true}
 use mathlib.Core.List.{List}
 use mathlib.Core.Path.{_∙_, _≡_, ap, refl, sym}
 use native.Mathlib.Omega.{arith}
@@ -39,14 +38,14 @@ module _ (t : ℕ → Bool) (r : ℕ) where
 -- ---- plans that wait
 
 module _ (idx : Lookup) (sg : Sign) (r : ℕ) where
-  later-pays : (d : ℕ) (x : Plan ℕ) → eqb d 0 ≡ false → pos 0 ≡ pays idx sg (later d x) r r
+  later-pays : (d : ℕ) (x : Plan ℕ) → 0 < d → pos 0 ≡ pays idx sg (later d x) r r
   unfolding due
-  later-pays zero x e = absurd (true≢false e)
+  later-pays zero x e = absurd (omega arith)
   later-pays (suc d) x e = due-is idx sg (later (suc d) x) r
 
-  within-pays : (d : ℕ) (t : Test ℤ) (x y : Plan ℕ) → holds idx t r ≡ false → eqb d 0 ≡ false → pos 0 ≡ pays idx sg (within d t x y) r r
+  within-pays : (d : ℕ) (t : Test ℤ) (x y : Plan ℕ) → holds idx t r ≡ false → 0 < d → pos 0 ≡ pays idx sg (within d t x y) r r
   unfolding due
-  within-pays zero t x y h e = absurd (true≢false e)
+  within-pays zero t x y h e = absurd (omega arith)
   within-pays (suc d) t x y h e = ap (λ b. cond b (due idx sg x r) (pos 0)) (sym h) ∙ due-is idx sg (within (suc d) t x y) r
 
 -- ---- the node's plan, its root in month r
@@ -56,10 +55,10 @@ module _ {values nodes : List ℤ} {sg : Sign} {r left at : ℕ} (n : PlanNode v
   penny-arm e = transfer-arm n (rw (eq-eqb r r refl) e)
 
 module _ {values nodes : List ℤ} {sg : Sign} {r left at : ℕ} (n : PlanNode values nodes sg r r left at letter.Later) where
-  pub later-now : {z : ℤ} → MonthIn z → natOf z ≡ r → eqb (natOf (slotAt nodes at 1)) 0 ≡ true → z ≡ pos (r + natOf (slotAt nodes at 1))
-  later-now {z} h ez e = month-is z (h .known) ∙ ap pos (omega (arith, eqb-true (natOf (slotAt nodes at 1)) 0 e))
+  pub later-now : {z : ℤ} → MonthIn z → natOf z ≡ r → natOf (slotAt nodes at 1) ≡ 0 → z ≡ pos (r + natOf (slotAt nodes at 1))
+  later-now {z} h ez e = month-is z (h .known) ∙ ap pos (omega (arith, ez, e))
 
-  pub later-waits : eqb (natOf (slotAt nodes at 1)) 0 ≡ false → pos 0 ≡ whole values nodes sg r r left at
+  pub later-waits : 0 < natOf (slotAt nodes at 1) → pos 0 ≡ whole values nodes sg r r left at
   later-waits e = later-pays (flat values) sg r _ _ e ∙ sym (by-letter n)
 
 module _ {values nodes : List ℤ} {sg : Sign} {r left at : ℕ} (n : PlanNode values nodes sg r r left at letter.Within) where
@@ -72,8 +71,8 @@ module _ {values nodes : List ℤ} {sg : Sign} {r left at : ℕ} (n : PlanNode v
   pub held-now : (k : Month) → MonthIn (k .0) → natOf (k .0) ≡ r → test r ≡ true → Held k ≡ waitOf (tried test delay r)
   held-now k h ek e = rw (tried-holds test r delay e, ← ek) (ap (λ z. Held (record { 0 = z })) (month-is (k .0) (h .known)))
 
-  pub missed-now : (k : Month) → MonthIn (k .0) → natOf (k .0) ≡ r → test r ≡ false → eqb delay 0 ≡ true → Missed k ≡ waitOf (tried test delay r)
-  missed-now k h ek e l = rw (eqb-true delay 0 l, tried-last test r e, ← ek) (ap (λ z. Missed (record { 0 = z })) (month-is (k .0) (h .known)))
+  pub missed-now : (k : Month) → MonthIn (k .0) → natOf (k .0) ≡ r → test r ≡ false → delay ≡ 0 → Missed k ≡ waitOf (tried test delay r)
+  missed-now k h ek e l = rw (l, tried-last test r e, ← ek) (ap (λ z. Missed (record { 0 = z })) (month-is (k .0) (h .known)))
 
-  pub within-waits : test r ≡ false → eqb delay 0 ≡ false → pos 0 ≡ whole values nodes sg r r left at
+  pub within-waits : test r ≡ false → 0 < delay → pos 0 ≡ whole values nodes sg r r left at
   within-waits h e = within-pays (flat values) sg r _ _ _ _ h e ∙ sym (by-letter n)
