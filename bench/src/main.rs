@@ -3,6 +3,7 @@
 mod agree;
 mod ask;
 mod baseline;
+mod count;
 mod generate;
 mod loads;
 mod picture;
@@ -14,7 +15,7 @@ mod timing;
 use ask::Call;
 use std::process::ExitCode;
 
-const USAGE: &str = "usage: bench | bench only CALL | bench walks | bench stack\n       bench agree [--calls N] [--seed S]";
+const USAGE: &str = "usage: bench | bench only CALL | bench walks | bench stack | bench count\n       bench agree [--calls N] [--seed S]";
 
 fn main() -> ExitCode {
     let words: Vec<String> = std::env::args().skip(1).collect();
@@ -33,6 +34,23 @@ fn main() -> ExitCode {
         ["stack"] => {
             print!("{}", stack::text());
             ExitCode::SUCCESS
+        }
+        ["count"] => match count::text() {
+            Some(text) => {
+                print!("{text}");
+                ExitCode::SUCCESS
+            }
+            None => {
+                eprintln!("valgrind did not count");
+                ExitCode::FAILURE
+            }
+        },
+        ["repeat", side, call, load, times] => {
+            let numbers = load.parse().ok().zip(times.parse().ok());
+            match numbers.and_then(|(load, times)| count::repeat(side, call, load, times)) {
+                Some(()) => ExitCode::SUCCESS,
+                None => usage(),
+            }
         }
         ["agree", ref options @ ..] => match agree::options(options) {
             Some((calls, seed)) => agree::run(calls, seed),
