@@ -1,8 +1,6 @@
 -- What each letter shows of the magnitude of an amount, and whether a test is small.
 use Prim.Native.Nat.{_*_, _+_, _-_, _≤_, max, suc, zero, ℕ}
-use Rattle.integers.proofs.Locals.{rd}
 use Rattle.integers.proofs.Solver.{parts-le}
-use Rattle.integers.specs.declared.Pence.{Pence}
 use Rattle.language.proofs.Truth.{and-T, and-e}
 use Rattle.language.specs.Limits.{maxAmount}
 use Rattle.language.specs.Rules.Measures.{magnitudeOfAmount}
@@ -12,10 +10,8 @@ use Rattle.language.specs.Text.Number.{between}
 use Rattle.language.specs.Text.Trees.{Amount, choose, difference, index, number, product, quotient, sum}
 use Rattle.measures.proofs.Amounts.{amount-is, number-ready, test-is}
 use Rattle.measures.proofs.Joins.{again, joined-measured, kept-measured, third, within-measured}
-use Rattle.measures.specs.Magnitudes.{InBounds, Kept, boundIn, isWithin, joined, measured, measuredAmount}
+use Rattle.measures.specs.Magnitudes.{InBounds, beyond, boundIn, joined, measured, measuredAmount}
 use Rattle.measures.specs.Ready.{AmountReady, TestReady}
-use Rattle.measures.specs.declared.limit.Measured.the-variants.{Beyond, Within}
-use Rattle.measures.specs.declared.limit.Measured.{Measured}
 use Rattle.nodes.proofs.Signed.{key}
 use Rattle.nodes.specs.Found.{amountAt, offsetOf, testAt}
 use Rattle.nodes.specs.Letters.{amountLetter, testLetter}
@@ -32,26 +28,22 @@ use lib.Signed.{leZ, leZ-yes}
 use mathlib.Core.Bool.{Bool, _&&_, false, true}
 use mathlib.Core.List.{List, [], _∷_}
 use mathlib.Core.Path.{_∙_, _≡_, ap₂, refl}
-use mir.Facts.{toZ-ofZ}
 use mir.Syntax.{w64}
 use mir.Val.{SFits, ofZ}
 use native.Mathlib.Omega.{arith}
 
 -- ---- bounds
 
-in-limit : (b : ℤ) → T (between (pos 0) (pos maxAmount) b) → (b ≡ pos (natAbs b)) × (natAbs b ≤ maxAmount)
-in-limit (pos n) t = (refl, omega (arith, parts-le (leZ-yes {a = pos n} {b = pos maxAmount} (and-T (leZ (pos 0) (pos n)) (leZ (pos n) (pos maxAmount)) t .1))))
+in-limit : (b : ℤ) → T (between (pos 0) (pos maxAmount) b) → natAbs b ≤ maxAmount
+in-limit (pos n) t = omega (arith, parts-le (leZ-yes {a = pos n} {b = pos maxAmount} (and-T (leZ (pos 0) (pos n)) (leZ (pos n) (pos maxAmount)) t .1)))
 in-limit (negsuc n) t = absurd t
 
-bound-at : (bounds : List ℤ) → T (allOf (between (pos 0) (pos maxAmount)) bounds) → (l : ℕ) → (getD bounds l (pos 0) ≡ pos (boundIn bounds l)) × (boundIn bounds l ≤ maxAmount)
-bound-at [] t l = (refl, omega arith)
+bound-at : (bounds : List ℤ) → T (allOf (between (pos 0) (pos maxAmount)) bounds) → (l : ℕ) → boundIn bounds l ≤ maxAmount
+bound-at [] t l = omega arith
 bound-at (b ∷ bs) t zero = in-limit b (and-T (between (pos 0) (pos maxAmount) b) (allOf (between (pos 0) (pos maxAmount)) bs) t .0)
 bound-at (b ∷ bs) t (suc l) = bound-at bs (and-T (between (pos 0) (pos maxAmount) b) (allOf (between (pos 0) (pos maxAmount)) bs) t .1) l
 
-pub bound-reads : (bounds : List ℤ) (l : ℕ) → InBounds bounds → SFits w64 (getD bounds l (pos 0)) → rd (getD bounds l (pos 0)) ≡ pos (boundIn bounds l)
-bound-reads bounds l h f = toZ-ofZ f ∙ bound-at bounds (h .within) l .0
-
-pub bound-absent : (bounds : List ℤ) (l : ℕ) → length bounds ≤ l → pos 0 ≡ pos (boundIn bounds l)
+pub bound-absent : (bounds : List ℤ) (l : ℕ) → length bounds ≤ l → 0 ≡ boundIn bounds l
 bound-absent bounds l h = rw (List·getD-eq-default bounds (pos 0) h) refl
 
 -- ---- the two letters that an operand answers by itself
@@ -68,7 +60,7 @@ module _ {s x : ℤ} (f : SFits w64 s) (e : s ≡ x) where
 -- ---- where an amount is small, its magnitude is within the limit
 
 module _ (bound : ℕ → ℕ) where
-  amount-limit : (a : Amount ℤ) → amountSmall bound a ≡ true → magnitudeOfAmount bound a ≤ maxAmount
+  pub amount-limit : (a : Amount ℤ) → amountSmall bound a ≡ true → magnitudeOfAmount bound a ≤ maxAmount
   unfolding amountSmall
   amount-limit (number n) e = leb-true _ _ e
   amount-limit (index l i) e = leb-true _ _ e
@@ -78,16 +70,22 @@ module _ (bound : ℕ → ℕ) where
   amount-limit (quotient n a) e = leb-true _ _ (and-e (amountSmall bound a) _ e .1)
   amount-limit (choose c a b) e = leb-true _ _ (third (amountSmall bound a) (amountSmall bound b) _ (and-e (testSmall bound c) _ e .1))
 
-  amount-within : (a : Amount ℤ) {x : Measured} → x ≡ measuredAmount bound a → isWithin x ≡ amountSmall bound a
-  amount-within a ea = within-measured (amountSmall bound a) (magnitudeOfAmount bound a) ea
+  amount-within : (a : Amount ℤ) {x : ℕ} → x ≡ measuredAmount bound a → leb x maxAmount ≡ amountSmall bound a
+  amount-within a ea = within-measured (amountSmall bound a) (magnitudeOfAmount bound a) (amount-limit a) ea
 
-  pub amount-kept : (a : Amount ℤ) {x : Measured} → x ≡ measuredAmount bound a → Kept x
+  pub amount-kept : (a : Amount ℤ) {x : ℕ} → x ≡ measuredAmount bound a → x ≤ beyond
   amount-kept a ea = kept-measured (amountSmall bound a) (magnitudeOfAmount bound a) (amount-limit a) ea
 
-  join : (op : ℕ → ℕ → ℕ) (a b : Amount ℤ) {x y r : Measured} → x ≡ measuredAmount bound a → y ≡ measuredAmount bound b → r ≡ joined op x y
+  join : (op : ℕ → ℕ → ℕ) (a b : Amount ℤ) {x y r : ℕ} → x ≡ measuredAmount bound a → y ≡ measuredAmount bound b → r ≡ joined op x y
       → r ≡ measured (amountSmall bound a && (amountSmall bound b && leb (op (magnitudeOfAmount bound a) (magnitudeOfAmount bound b)) maxAmount))
       (op (magnitudeOfAmount bound a) (magnitudeOfAmount bound b))
-  join op a b ex ey er = joined-measured op (amountSmall bound a) (amountSmall bound b) (magnitudeOfAmount bound a) (magnitudeOfAmount bound b) ex ey er
+  join op a b ex ey er =
+      joined-measured op (amountSmall bound a) (amountSmall bound b) (magnitudeOfAmount bound a) (magnitudeOfAmount bound b) (amount-limit a) (amount-limit b) ex ey er
+
+  -- the two amounts below a node, each within the limit
+  pub two-within : (a b : Amount ℤ) {x y : ℕ} → x ≡ measuredAmount bound a → y ≡ measuredAmount bound b → {p q : Bool} → p ≡ leb x maxAmount → q ≡ leb y maxAmount
+      → (p && q) ≡ (amountSmall bound a && amountSmall bound b)
+  two-within a b ex ey ep eq = ap₂ _&&_ (ep ∙ amount-within a ex) (eq ∙ amount-within b ey)
 
 -- ---- amounts
 
@@ -96,25 +94,25 @@ module _ (bounds : List ℤ) where
   bound = boundIn bounds
 
   module _ {left at : ℕ} {nodes : List ℤ} (h : AmountReady left nodes at) {l : AmountLetter} (e : l ≡ amountLetter (slotAt nodes at 0)) where
-    abbrev whole : Measured
+    abbrev whole : ℕ
     whole = measuredAmount bound (amountAt offsetOf left nodes at)
 
     abbrev part : ℕ → Amount ℤ
     part p = amountAt offsetOf (left - 1) nodes p
 
-    pub number-magnitude : l ≡ letter.Number → {p : Pence} → p .0 ≡ pos (natAbs (slotAt nodes at 1)) → Within p ≡ whole
+    pub number-magnitude : l ≡ letter.Number → {r : ℕ} → r ≡ natAbs (slotAt nodes at 1) → r ≡ whole
     unfolding amountSmall magnitudeOfAmount
-    number-magnitude t ep = rw (amount-is h e t, le-leb (natAbs (slotAt nodes at 1)) maxAmount (number-ready h e t), ← ep) refl
+    number-magnitude t er = rw (amount-is h e t, le-leb (natAbs (slotAt nodes at 1)) maxAmount (number-ready h e t)) er
 
-    pub index-magnitude : l ≡ letter.Index → InBounds bounds → {k : ℕ} {p : Pence} → k ≡ natOf (slotAt nodes at 1) → p .0 ≡ pos (bound k) → Within p ≡ whole
+    pub index-magnitude : l ≡ letter.Index → InBounds bounds → {k r : ℕ} → k ≡ natOf (slotAt nodes at 1) → r ≡ bound k → r ≡ whole
     unfolding amountSmall magnitudeOfAmount
-    index-magnitude t b {k} ek ep = rw (amount-is h e t, ← ek, le-leb (bound k) maxAmount (bound-at bounds (b .within) k .1), ← ep) refl
+    index-magnitude t b {k} ek er = rw (amount-is h e t, ← ek, le-leb (bound k) maxAmount (bound-at bounds (b .within) k)) er
 
-    pub no-amount-magnitude : l ≡ letter.NoAmount → Within (record { 0 = pos 0 }) ≡ whole
+    pub no-amount-magnitude : l ≡ letter.NoAmount → 0 ≡ whole
     unfolding amountSmall magnitudeOfAmount
     no-amount-magnitude t = rw (amount-is h e t) refl
 
-    module _ {x y : Measured} (ex : x ≡ measuredAmount bound (part (at + 1))) (ey : y ≡ measuredAmount bound (part (linkAt nodes at 3))) {r : Measured} where
+    module _ {x y : ℕ} (ex : x ≡ measuredAmount bound (part (at + 1))) (ey : y ≡ measuredAmount bound (part (linkAt nodes at 3))) {r : ℕ} where
       pub sum-magnitude : l ≡ letter.Sum → r ≡ joined _+_ x y → r ≡ whole
       unfolding amountSmall magnitudeOfAmount
       sum-magnitude t er = rw (amount-is h e t) (join bound _+_ (part (at + 1)) (part (linkAt nodes at 3)) ex ey er)
@@ -127,18 +125,18 @@ module _ (bounds : List ℤ) where
       unfolding amountSmall magnitudeOfAmount
       product-magnitude t er = rw (amount-is h e t) (join bound _*_ (part (at + 1)) (part (linkAt nodes at 3)) ex ey er)
 
-    pub quotient-magnitude : l ≡ letter.Quotient → {r : Measured} → r ≡ measuredAmount bound (part (at + 1)) → r ≡ whole
+    pub quotient-magnitude : l ≡ letter.Quotient → {r : ℕ} → r ≡ measuredAmount bound (part (at + 1)) → r ≡ whole
     unfolding amountSmall magnitudeOfAmount
     quotient-magnitude t er =
         rw (amount-is h e t, again (amountSmall bound (part (at + 1))) (magnitudeOfAmount bound (part (at + 1))) (amount-limit bound (part (at + 1)))) er
 
     module _ (t : l ≡ letter.Choose) {c : Bool} (ec : c ≡ testSmall bound (testAt offsetOf (left - 1) nodes (at + 1))) where
-      pub choose-magnitude : c ≡ true → {p q : ℕ} → p ≡ linkAt nodes at 3 → q ≡ linkAt nodes at 4 → {x y r : Measured}
+      pub choose-magnitude : c ≡ true → {p q : ℕ} → p ≡ linkAt nodes at 3 → q ≡ linkAt nodes at 4 → {x y r : ℕ}
           → x ≡ measuredAmount bound (part p) → y ≡ measuredAmount bound (part q) → r ≡ joined max x y → r ≡ whole
       unfolding amountSmall magnitudeOfAmount
       choose-magnitude u {p} {q} ep eq ex ey er = rw (amount-is h e t, ← ep, ← eq, ← ec, u) (join bound max (part p) (part q) ex ey er)
 
-      pub choose-beyond : c ≡ false → Beyond ≡ whole
+      pub choose-beyond : c ≡ false → beyond ≡ whole
       unfolding amountSmall
       choose-beyond u = rw (amount-is h e t, ← ec, u) refl
 
@@ -151,20 +149,14 @@ module _ (bounds : List ℤ) where
     abbrev partTest : ℕ → Bool
     partTest p = testSmall bound (testAt offsetOf (left - 1) nodes p)
 
-    module _ {x y : Measured} (ex : x ≡ measuredAmount bound (amountAt offsetOf (left - 1) nodes (at + 1)))
-        (ey : y ≡ measuredAmount bound (amountAt offsetOf (left - 1) nodes (linkAt nodes at 3))) {r : Bool} (er : r ≡ (isWithin x && isWithin y)) where
-      two : r ≡ (amountSmall bound (amountAt offsetOf (left - 1) nodes (at + 1)) && amountSmall bound (amountAt offsetOf (left - 1) nodes (linkAt nodes at 3)))
-      two =
-          er
-          ∙ ap₂ _&&_ (amount-within bound (amountAt offsetOf (left - 1) nodes (at + 1)) ex) (amount-within bound (amountAt offsetOf (left - 1) nodes (linkAt nodes at 3)) ey)
-
+    module _ {r : Bool} (er : r ≡ (amountSmall bound (amountAt offsetOf (left - 1) nodes (at + 1)) && amountSmall bound (amountAt offsetOf (left - 1) nodes (linkAt nodes at 3)))) where
       pub less-small : l ≡ test.Less → r ≡ wholeTest
       unfolding testSmall
-      less-small t = rw (test-is h e t) two
+      less-small t = rw (test-is h e t) er
 
       pub equal-small : l ≡ test.Equal → r ≡ wholeTest
       unfolding testSmall
-      equal-small t = rw (test-is h e t) two
+      equal-small t = rw (test-is h e t) er
 
     pub conjunction-small : l ≡ test.Conjunction → {r : Bool} → r ≡ (partTest (at + 1) && partTest (linkAt nodes at 3)) → r ≡ wholeTest
     unfolding testSmall

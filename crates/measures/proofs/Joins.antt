@@ -1,117 +1,110 @@
 -- Two magnitudes joined, as the code does it, and as the definitions say it.
-use Prim.Native.Nat.{_*_, _+_, _≤_, max, ℕ}
-use Rattle.integers.proofs.Locals.{rd}
-use Rattle.integers.specs.Bounded.{amountWithin}
-use Rattle.integers.specs.declared.Bounded.the-variants as bounded
-use Rattle.integers.specs.declared.Bounded.{Bounded}
-use Rattle.integers.specs.declared.Pence.{Pence}
+use Prim.Native.Nat.{_*_, _+_, _/_, _<_, _≤_, max, ℕ}
 use Rattle.language.proofs.Truth.{and-e}
 use Rattle.language.specs.Limits.{maxAmount}
-use Rattle.measures.proofs.Fields.{whole}
-use Rattle.measures.specs.Magnitudes.{Kept, isWithin, joined, measured, measuredOf}
-use Rattle.measures.specs.declared.limit.Measured.the-variants.{Beyond, Within}
-use Rattle.measures.specs.declared.limit.Measured.{Measured}
-use Rattle.nodes.specs.Table.{natOf}
-use borrow.Author.Tests.{le-leb, ltb-false, ltb-true}
+use Rattle.measures.specs.Magnitudes.{beyond, joined, measured}
+use borrow.Author.Tests.{le-leb, leb-false, leb-true, lt-leb}
 use lib.Dec.{leb}
-use lib.IntN.{_*ℤ_, _+ℤ_, natAbs, negsuc, pos, ℤ}
-use lib.Signed.{ltZ}
-use mathlib.Core.Bool.{Bool, _&&_, cond, false, true}
-use mathlib.Core.Path.{_∙_, _≡_, ap, ap₂, refl, sym}
-use mir.Facts.{toZ-ofZ}
-use mir.Syntax.{w64}
-use mir.Val.{SFits}
+use mathlib.Core.Bool.{Bool, _&&_, false, true}
+use mathlib.Core.Path.{_∙_, _≡_, ap₂, refl, sym}
+use native.Mathlib.Nat.{div-lt-iff-lt-mul, le-div-iff-mul-le}
 use native.Mathlib.Omega.{arith}
 
 -- ---- as the code does it
 
-module _ (op : ℕ → ℕ → ℕ) (a b : Measured) where
-  pub first-beyond : a ≡ Beyond → Beyond ≡ joined op a b
-  unfolding joined
-  first-beyond e = rw e refl
+no-second : (p q r : Bool) → q ≡ false → (p && (q && r)) ≡ false
+no-second true q r e = rw e refl
+no-second false q r e = refl
 
-  pub second-beyond : {x : Pence} → a ≡ Within x → b ≡ Beyond → Beyond ≡ joined op a b
-  unfolding joined
-  second-beyond e u = rw (e, u) refl
+no-third : (p q r : Bool) → r ≡ false → (p && (q && r)) ≡ false
+no-third true true r e = e
+no-third true false r e = refl
+no-third false q r e = refl
 
-taken-is : (n : ℕ) → measuredOf (amountWithin (pos n)) ≡ measured (leb n maxAmount) n
-unfolding amountWithin
-taken-is n = by (leb n maxAmount)
+module _ (op : ℕ → ℕ → ℕ) (a b : ℕ) where
+  pub within-joined : a ≤ maxAmount → b ≤ maxAmount → op a b ≤ maxAmount → op a b ≡ joined op a b
+  unfolding joined
+  within-joined i j k = rw (le-leb a maxAmount i, le-leb b maxAmount j, le-leb (op a b) maxAmount k) refl
+
+  not-joined : (leb a maxAmount && (leb b maxAmount && leb (op a b) maxAmount)) ≡ false → beyond ≡ joined op a b
+  unfolding joined
+  not-joined e = rw e refl
+
+  pub first-beyond : maxAmount < a → beyond ≡ joined op a b
+  first-beyond h = not-joined (rw (lt-leb a maxAmount h) refl)
+
+  pub second-beyond : maxAmount < b → beyond ≡ joined op a b
+  second-beyond h = not-joined (no-second (leb a maxAmount) (leb b maxAmount) (leb (op a b) maxAmount) (lt-leb b maxAmount h))
+
+  pub outcome-beyond : maxAmount < op a b → beyond ≡ joined op a b
+  outcome-beyond h = not-joined (no-third (leb a maxAmount) (leb b maxAmount) (leb (op a b) maxAmount) (lt-leb (op a b) maxAmount h))
+
+module _ (a b : ℕ) where
+  pub sum-within : a + b ≤ maxAmount → a + b ≡ joined _+_ a b
+  sum-within h = within-joined _+_ a b (omega (arith, h)) (omega (arith, h)) h
+
+  pub product-zero : a ≤ maxAmount → b ≡ 0 → 0 ≡ joined _*_ a b
+  product-zero h e = let z : a * b ≡ 0 = rw e (omega arith) in sym z ∙ within-joined _*_ a b h (omega (arith, e)) (omega (arith, z))
+
+  module _ (some : b ≡ 0 → ⊥) where
+    pub product-beyond : maxAmount / b < a → beyond ≡ joined _*_ a b
+    product-beyond h = outcome-beyond _*_ a b (div-lt-iff-lt-mul {k = b} {x = maxAmount} {y = a} (omega (arith, some)) .0 h)
+
+    pub product-limit : a ≤ maxAmount / b → a * b ≤ maxAmount
+    product-limit h = le-div-iff-mul-le {k = b} {x = a} {y = maxAmount} (omega (arith, some)) .0 h
+
+  pub greater-joined : a ≤ beyond → b ≤ beyond → max a b ≡ joined max a b
+  greater-joined i j = by (leb (max a b) maxAmount) refl
+    where
+      by : (t : Bool) → leb (max a b) maxAmount ≡ t → max a b ≡ joined max a b
+      by true e = let h = leb-true (max a b) maxAmount e in within-joined max a b (omega (arith, h)) (omega (arith, h)) h
+      by false e = let h = leb-false (max a b) maxAmount e in let z : max a b ≡ beyond = omega (arith, h, i, j) in z ∙ outcome-beyond max a b h
+
+-- once is as far from zero
+pub once-joined : (a : ℕ) → a ≤ beyond → a ≡ joined _*_ a 1
+once-joined a i = by (leb a maxAmount) refl
   where
-    by : (small : Bool) → measuredOf (cond small (bounded.Within (record { 0 = pos n })) bounded.OutOfRange) ≡ measured small n
-    by true = refl
-    by false = refl
-
-limit : (z : ℤ) → natAbs z ≤ maxAmount → natOf z ≤ maxAmount
-limit (pos n) h = h
-limit (negsuc n) h = omega arith
-
-module _ {a b : Measured} (ka : Kept a) (kb : Kept b) {x y : Pence} (ea : a ≡ Within x) (eb : b ≡ Within y) where
-  wx : x .0 ≡ pos (natOf (x .0))
-  wx = whole (x .0) (ka .nonneg x ea)
-
-  wy : y .0 ≡ pos (natOf (y .0))
-  wy = whole (y .0) (kb .nonneg y eb)
-
-  within-joined : (op : ℕ → ℕ → ℕ) {r : Measured} → r ≡ measured (leb (op (natOf (x .0)) (natOf (y .0))) maxAmount) (op (natOf (x .0)) (natOf (y .0))) → r ≡ joined op a b
-  unfolding joined
-  within-joined op er = rw (ea, eb) er
-
-  pub sum-joined : {s : Bounded} {r : Measured} → s ≡ amountWithin (x .0 +ℤ y .0) → r ≡ measuredOf s → r ≡ joined _+_ a b
-  sum-joined es er = within-joined _+_ (er ∙ ap measuredOf (es ∙ ap amountWithin (ap₂ _+ℤ_ wx wy)) ∙ taken-is (natOf (x .0) + natOf (y .0)))
-
-  pub product-joined : {s : Bounded} {r : Measured} → s ≡ amountWithin (x .0 *ℤ y .0) → r ≡ measuredOf s → r ≡ joined _*_ a b
-  product-joined es er = within-joined _*_ (er ∙ ap measuredOf (es ∙ ap amountWithin (ap₂ _*ℤ_ wx wy)) ∙ taken-is (natOf (x .0) * natOf (y .0)))
-
-  module _ (f : SFits w64 (x .0)) (g : SFits w64 (y .0)) where
-    order : (t : Bool) → ltZ (rd (x .0)) (rd (y .0)) ≡ t → ltZ (pos (natOf (x .0))) (pos (natOf (y .0))) ≡ t
-    order t e = ap₂ ltZ (sym wx) (sym wy) ∙ (rw (toZ-ofZ f, toZ-ofZ g) at e)
-
-    pub second-greater : ltZ (rd (x .0)) (rd (y .0)) ≡ true → Within y ≡ joined max a b
-    second-greater e =
-        let o : max (natOf (x .0)) (natOf (y .0)) ≡ natOf (y .0) = omega (arith, ltb-true (natOf (x .0)) (natOf (y .0)) (order true e)) in
-        within-joined max (rw (o, le-leb (natOf (y .0)) maxAmount (limit (y .0) (kb .small y eb .small)), ← wy) refl)
-
-    pub first-greater : ltZ (rd (x .0)) (rd (y .0)) ≡ false → Within x ≡ joined max a b
-    first-greater e =
-        let o : max (natOf (x .0)) (natOf (y .0)) ≡ natOf (x .0) = omega (arith, ltb-false (natOf (x .0)) (natOf (y .0)) (order false e)) in
-        within-joined max (rw (o, le-leb (natOf (x .0)) maxAmount (limit (x .0) (ka .small x ea .small)), ← wx) refl)
+    by : (t : Bool) → leb a maxAmount ≡ t → a ≡ joined _*_ a 1
+    by true e =
+        let z : a * 1 ≡ a = omega arith in
+        let h = leb-true a maxAmount e in
+        sym z ∙ within-joined _*_ a 1 h (omega arith) (omega (arith, h, z))
+    by false e = let h = leb-false a maxAmount e in let z : a ≡ beyond = omega (arith, h, i) in z ∙ first-beyond _*_ a 1 h
 
 -- ---- as the definitions say it
 
-pub joined-measured : (op : ℕ → ℕ → ℕ) (p q : Bool) (m n : ℕ) {a b r : Measured} → a ≡ measured p m → b ≡ measured q n → r ≡ joined op a b
-    → r ≡ measured (p && (q && leb (op m n) maxAmount)) (op m n)
-unfolding joined
-joined-measured op p q m n ea eb er = er ∙ ap₂ (joined op) ea eb ∙ by p q
-  where
-    by : (p q : Bool) → joined op (measured p m) (measured q n) ≡ measured (p && (q && leb (op m n) maxAmount)) (op m n)
-    by true true = refl
-    by true false = refl
-    by false q = refl
+module _ (op : ℕ → ℕ → ℕ) (p q : Bool) (m n : ℕ) (hm : p ≡ true → m ≤ maxAmount) (hn : q ≡ true → n ≤ maxAmount) where
+  pub joined-measured : {a b r : ℕ} → a ≡ measured p m → b ≡ measured q n → r ≡ joined op a b → r ≡ measured (p && (q && leb (op m n) maxAmount)) (op m n)
+  unfolding joined
+  joined-measured ea eb er = er ∙ ap₂ (joined op) ea eb ∙ by p q hm hn
+    where
+      by : (p q : Bool) → (p ≡ true → m ≤ maxAmount) → (q ≡ true → n ≤ maxAmount) → joined op (measured p m) (measured q n) ≡ measured (p && (q && leb (op m n) maxAmount)) (op m n)
+      by true true i j = rw (le-leb m maxAmount (i refl), le-leb n maxAmount (j refl)) refl
+      by true false i j = rw (le-leb m maxAmount (i refl)) refl
+      by false q i j = refl
 
-amount-of : Measured → ℤ
-amount-of (Within p) = p .0
-amount-of Beyond = pos 0
+module _ (p : Bool) (n : ℕ) (h : p ≡ true → n ≤ maxAmount) where
+  pub kept-measured : {a : ℕ} → a ≡ measured p n → a ≤ beyond
+  kept-measured ea = rw ea (by p h)
+    where
+      by : (p : Bool) → (p ≡ true → n ≤ maxAmount) → measured p n ≤ beyond
+      by true i = omega (arith, i refl)
+      by false i = omega arith
 
-pub kept-measured : (p : Bool) (n : ℕ) → (p ≡ true → n ≤ maxAmount) → {a : Measured} → a ≡ measured p n → Kept a
-unfolding amount-of
-kept-measured true n h {a} ea = record { nonneg = λ x e. rw (is x e) tt; small = λ x e. rw (is x e) (record { small = h refl }) }
-  where
-    is : (x : Pence) → a ≡ Within x → x .0 ≡ pos n
-    is x e = ap amount-of (sym e ∙ ea)
-kept-measured false n h {a} ea = record { nonneg = λ x e. absurd (not x e); small = λ x e. absurd (not x e) }
-  where
-    not : (x : Pence) → a ≡ Within x → ⊥
-    not x e = let z : _≡_ {A = ℕ} 0 1 = cc in omega arith
+  pub within-measured : {a : ℕ} → a ≡ measured p n → leb a maxAmount ≡ p
+  within-measured ea = rw ea (by p h)
+    where
+      by : (p : Bool) → (p ≡ true → n ≤ maxAmount) → leb (measured p n) maxAmount ≡ p
+      by true i = le-leb n maxAmount (i refl)
+      by false i = refl
 
-pub within-measured : (p : Bool) (n : ℕ) {a : Measured} → a ≡ measured p n → isWithin a ≡ p
-within-measured true n e = ap isWithin e
-within-measured false n e = ap isWithin e
-
--- a limit that is known already
-pub again : (p : Bool) (n : ℕ) → (p ≡ true → n ≤ maxAmount) → (p && leb n maxAmount) ≡ p
-again true n h = le-leb n maxAmount (h refl)
-again false n h = refl
+  -- a limit that is known already
+  pub again : (p && leb n maxAmount) ≡ p
+  again = by p h
+    where
+      by : (p : Bool) → (p ≡ true → n ≤ maxAmount) → (p && leb n maxAmount) ≡ p
+      by true i = le-leb n maxAmount (i refl)
+      by false i = refl
 
 -- the last of three tests that hold
 pub third : (p q r : Bool) → (p && (q && r)) ≡ true → r ≡ true

@@ -1,88 +1,57 @@
-// A magnitude where it is within the limit, and two of them joined.
+// A magnitude as one number: itself where it is within the limit, else one more than the limit. Two of them joined.
 ghost use mathlib.Core.Path.{_≡_};
-ghost use mathlib.Core.Bool.{_&&_};
-ghost use Prim.Native.Nat.{_+_, _*_, max};
-ghost use Rattle.measures.specs.Magnitudes.{Kept, isWithin, joined, measuredOf};
-use integers::Bounded;
-use integers::Pence;
+ghost use Prim.Native.Nat.{_+_, _*_, _≤_, max};
+ghost use lib.Dec.{leb};
+ghost use Rattle.language.specs.Limits.{maxAmount};
+ghost use Rattle.measures.specs.Magnitudes.{beyond, joined};
 
-pub enum Measured {
-    Within(Pence),
-    Beyond,
-}
+const LIMIT: u64 = 9_000_000_000_000;
 
-pub struct Two {
-    pub first: Measured,
-    pub second: Measured,
-}
+// What stands for every magnitude that is beyond the limit.
+pub const BEYOND: u64 = 9_000_000_000_001;
 
-fn measured_of(b: Bounded) -> Measured
-    ensures { λ r. ⌜ r ≡ measuredOf b ⌝ }
+pub fn is_within(a: u64) -> bool
+    ensures { λ r. ⌜ r ≡ leb a maxAmount ⌝ }
 {
-    match b {
-        Bounded::Within(p) => Measured::Within(p),
-        Bounded::OutOfRange => Measured::Beyond,
+    a <= LIMIT
+}
+
+pub fn sum_of(a: u64, b: u64) -> u64
+    requires { ⌜ (a ≤ beyond) × (b ≤ beyond) ⌝ }
+    ensures { λ r. ⌜ r ≡ joined _+_ a b ⌝ }
+{
+    let s = a + b;
+    if s <= LIMIT {
+        return s;
     }
+    BEYOND
 }
 
-pub fn sum_of(two: Two) -> Measured
-    requires { ⌜ Kept (two .first) × Kept (two .second) ⌝ }
-    ensures { λ r. ⌜ r ≡ joined _+_ (two .first) (two .second) ⌝ }
+// Decided by a division: the product of two magnitudes may not fit.
+pub fn product_of(a: u64, b: u64) -> u64
+    ensures { λ r. ⌜ r ≡ joined _*_ a b ⌝ }
 {
-    let a = two.first;
-    let b = two.second;
-    let Measured::Within(x) = a else {
-        return Measured::Beyond;
-    };
-    let Measured::Within(y) = b else {
-        return Measured::Beyond;
-    };
-    measured_of(integers::sum(x, y))
+    if LIMIT < a {
+        return BEYOND;
+    }
+    if LIMIT < b {
+        return BEYOND;
+    }
+    if b == 0 {
+        return 0;
+    }
+    if LIMIT / b < a {
+        return BEYOND;
+    }
+    a * b
 }
 
-pub fn product_of(two: Two) -> Measured
-    requires { ⌜ Kept (two .first) × Kept (two .second) ⌝ }
-    ensures { λ r. ⌜ r ≡ joined _*_ (two .first) (two .second) ⌝ }
+pub fn greater_of(a: u64, b: u64) -> u64
+    requires { ⌜ (a ≤ beyond) × (b ≤ beyond) ⌝ }
+    ensures { λ r. ⌜ r ≡ joined max a b ⌝ }
 {
-    let a = two.first;
-    let b = two.second;
-    let Measured::Within(x) = a else {
-        return Measured::Beyond;
-    };
-    let Measured::Within(y) = b else {
-        return Measured::Beyond;
-    };
-    measured_of(integers::product(x, y))
-}
-
-pub fn greater_of(two: Two) -> Measured
-    requires { ⌜ Kept (two .first) × Kept (two .second) ⌝ }
-    ensures { λ r. ⌜ r ≡ joined max (two .first) (two .second) ⌝ }
-{
-    let a = two.first;
-    let b = two.second;
-    let Measured::Within(x) = a else {
-        return Measured::Beyond;
-    };
-    let Measured::Within(y) = b else {
-        return Measured::Beyond;
-    };
-    if x.0 < y.0 {
+    if a < b {
         return b;
     }
     a
-}
-
-pub fn both_within(two: Two) -> bool
-    ensures { λ r. ⌜ r ≡ (isWithin (two .first) && isWithin (two .second)) ⌝ }
-{
-    let a = two.first;
-    let b = two.second;
-    let Measured::Within(_) = a else {
-        return false;
-    };
-    match b {
-        Measured::Within(_) => true,
-        Measured::Beyond => false,
-    }
 }

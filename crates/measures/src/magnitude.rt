@@ -2,21 +2,14 @@
 ghost use mathlib.Core.Path.{_≡_};
 ghost use mathlib.Core.Bool.{_&&_};
 ghost use Prim.Native.Nat.{_+_, _<_};
-ghost use lib.IntN.{natAbs, pos};
-ghost use Rattle.integers.specs.Bounded.{Small};
-ghost use Rattle.language.specs.Rules.Tests.{testSmall};
+ghost use lib.IntN.{natAbs};
+ghost use Rattle.language.specs.Rules.Tests.{amountSmall, testSmall};
 ghost use Rattle.nodes.specs.Found.{amountAt, offsetOf, planAt, testAt};
 ghost use Rattle.nodes.specs.Table.{linkAt, natOf, slotAt};
-ghost use Rattle.measures.specs.Magnitudes.{InBounds, boundIn, measuredAmount, measuredPlan};
+ghost use Rattle.measures.specs.Magnitudes.{InBounds, boundIn, joined, measuredAmount, measuredPlan};
 ghost use Rattle.measures.specs.Ready.{AmountReady, AmountsReady, PlanReady, TestReady, TestsReady};
-use crate::limit::Measured;
-use crate::limit::Two;
-use crate::limit::both_within;
-use crate::limit::greater_of;
-use crate::limit::product_of;
-use crate::limit::sum_of;
+use crate::limit;
 use crate::node;
-use integers::Pence;
 use nodes::AmountLetter;
 use nodes::PlanLetter;
 use nodes::TestLetter;
@@ -24,55 +17,51 @@ use nodes::TestLetter;
 // ---- a node's own
 
 // The distance from zero of an `N`.
-fn distance(nodes: &[i64; 2560], at: usize) -> Pence
-    requires { ⌜ (at < 512) × Small (slotAt (now nodes) at 1) ⌝ }
-    ensures { λ r. ⌜ r .0 ≡ pos (natAbs (slotAt (now (nodes .entry)) at 1)) ⌝ }
+fn distance(nodes: &[i64; 2560], at: usize) -> u64
+    requires { ⌜ at < 512 ⌝ }
+    ensures { λ r. ⌜ r ≡ natAbs (slotAt (now (nodes .entry)) at 1) ⌝ }
 {
-    let n = nodes::slot(nodes, at, 1);
-    if n < 0 {
-        return Pence(0 - n);
-    }
-    Pence(n)
+    integers::magnitude(nodes::slot(nodes, at, 1))
 }
 
 // A label's bound, 0 for an absent label.
-fn bound_of(bounds: &[i64], l: usize) -> Pence
-    requires { ⌜ InBounds (now bounds) ⌝ }
-    ensures { λ r. ⌜ r .0 ≡ pos (boundIn (now (bounds .entry)) l) ⌝ }
+fn bound_of(bounds: &[i64], l: usize) -> u64
+    ensures { λ r. ⌜ r ≡ boundIn (now (bounds .entry)) l ⌝ }
 {
     if l < bounds.len() {
-        return Pence(bounds[l]);
+        return integers::magnitude(bounds[l]);
     }
-    Pence(0)
+    0
 }
 
 // ---- amounts and tests
 
-pub fn amount_magnitude(nodes: &[i64; 2560], at: usize, left: usize, bounds: &[i64]) -> Measured
+pub fn amount_magnitude(nodes: &[i64; 2560], at: usize, left: usize, bounds: &[i64]) -> u64
     requires { ⌜ AmountReady left (now nodes) at × InBounds (now bounds) ⌝ }
     ensures { λ r. ⌜ r ≡ measuredAmount (boundIn (now (bounds .entry))) (amountAt offsetOf left (now (nodes .entry)) at) ⌝ }
 {
     let letter = node::amount_kind(nodes, at);
     match letter {
-        AmountLetter::Number => Measured::Within(distance(nodes, at)),
-        AmountLetter::Index => Measured::Within(bound_of(bounds, node::label(nodes, at))),
-        AmountLetter::Sum => sum_of(two_amounts(nodes, at, left - 1, bounds)),
-        AmountLetter::Difference => sum_of(two_amounts(nodes, at, left - 1, bounds)),
-        AmountLetter::Product => product_of(two_amounts(nodes, at, left - 1, bounds)),
+        AmountLetter::Number => distance(nodes, at),
+        AmountLetter::Index => bound_of(bounds, node::label(nodes, at)),
+        AmountLetter::Sum => two_summed(nodes, at, left - 1, bounds),
+        AmountLetter::Difference => two_summed(nodes, at, left - 1, bounds),
+        AmountLetter::Product => {
+            let x = operand(nodes, at + 1, left - 1, bounds);
+            let y = operand(nodes, nodes::link(nodes, at, 3), left - 1, bounds);
+            limit::product_of(x, y)
+        }
         AmountLetter::Quotient => amount_magnitude(nodes, at + 1, left - 1, bounds),
         AmountLetter::Choose => {
             let t = test_small(nodes, at + 1, left - 1, bounds);
             let x = amount_magnitude(nodes, nodes::link(nodes, at, 3), left - 1, bounds);
             let y = amount_magnitude(nodes, nodes::link(nodes, at, 4), left - 1, bounds);
             if t {
-                return greater_of(Two {
-                    first: x,
-                    second: y,
-                });
+                return limit::greater_of(x, y);
             }
-            Measured::Beyond
+            limit::BEYOND
         }
-        AmountLetter::NoAmount => Measured::Within(Pence(0)),
+        AmountLetter::NoAmount => 0,
     }
 }
 
@@ -83,8 +72,8 @@ pub fn test_small(nodes: &[i64; 2560], at: usize, left: usize, bounds: &[i64]) -
 {
     let letter = node::test_kind(nodes, at);
     match letter {
-        TestLetter::Less => both_within(two_amounts(nodes, at, left - 1, bounds)),
-        TestLetter::Equal => both_within(two_amounts(nodes, at, left - 1, bounds)),
+        TestLetter::Less => two_small(nodes, at, left - 1, bounds),
+        TestLetter::Equal => two_small(nodes, at, left - 1, bounds),
         TestLetter::Conjunction => two_tests(nodes, at, left - 1, bounds),
         TestLetter::Disjunction => two_tests(nodes, at, left - 1, bounds),
         TestLetter::Negation => test_small(nodes, at + 1, left - 1, bounds),
@@ -93,31 +82,40 @@ pub fn test_small(nodes: &[i64; 2560], at: usize, left: usize, bounds: &[i64]) -
 }
 
 // The magnitude of an amount: a number or an index without a call.
-fn operand(nodes: &[i64; 2560], at: usize, left: usize, bounds: &[i64]) -> Measured
+fn operand(nodes: &[i64; 2560], at: usize, left: usize, bounds: &[i64]) -> u64
     requires { ⌜ AmountReady left (now nodes) at × InBounds (now bounds) ⌝ }
     ensures { λ r. ⌜ r ≡ measuredAmount (boundIn (now (bounds .entry))) (amountAt offsetOf left (now (nodes .entry)) at) ⌝ }
 {
     let x = nodes::slot(nodes, at, 0);
     match x {
-        78 => Measured::Within(distance(nodes, at)),
-        79 => Measured::Within(bound_of(bounds, node::label(nodes, at))),
+        78 => distance(nodes, at),
+        79 => bound_of(bounds, node::label(nodes, at)),
         _ => amount_magnitude(nodes, at, left, bounds),
     }
 }
 
-// The two amounts below a node.
-fn two_amounts(nodes: &[i64; 2560], at: usize, left: usize, bounds: &[i64]) -> Two
+// The two amounts below a node, summed.
+fn two_summed(nodes: &[i64; 2560], at: usize, left: usize, bounds: &[i64]) -> u64
     requires { ⌜ AmountsReady left (now nodes) at × InBounds (now bounds) ⌝ }
-    ensures { λ r. ⌜
-        (r .first ≡ measuredAmount (boundIn (now (bounds .entry))) (amountAt offsetOf left (now (nodes .entry)) (at + 1))) ×
-        (r .second ≡ measuredAmount (boundIn (now (bounds .entry))) (amountAt offsetOf left (now (nodes .entry)) (linkAt (now (nodes .entry)) at 3))) ⌝ }
+    ensures { λ r. ⌜ r ≡ joined _+_
+        (measuredAmount (boundIn (now (bounds .entry))) (amountAt offsetOf left (now (nodes .entry)) (at + 1)))
+        (measuredAmount (boundIn (now (bounds .entry))) (amountAt offsetOf left (now (nodes .entry)) (linkAt (now (nodes .entry)) at 3))) ⌝ }
 {
     let x = operand(nodes, at + 1, left, bounds);
     let y = operand(nodes, nodes::link(nodes, at, 3), left, bounds);
-    Two {
-        first: x,
-        second: y,
-    }
+    limit::sum_of(x, y)
+}
+
+// Whether the two amounts below a node are within the limit.
+fn two_small(nodes: &[i64; 2560], at: usize, left: usize, bounds: &[i64]) -> bool
+    requires { ⌜ AmountsReady left (now nodes) at × InBounds (now bounds) ⌝ }
+    ensures { λ r. ⌜ r ≡
+        (amountSmall (boundIn (now (bounds .entry))) (amountAt offsetOf left (now (nodes .entry)) (at + 1)) &&
+        amountSmall (boundIn (now (bounds .entry))) (amountAt offsetOf left (now (nodes .entry)) (linkAt (now (nodes .entry)) at 3))) ⌝ }
+{
+    let x = operand(nodes, at + 1, left, bounds);
+    let y = operand(nodes, nodes::link(nodes, at, 3), left, bounds);
+    limit::is_within(x) & limit::is_within(y)
 }
 
 // The two tests below a node.
@@ -134,50 +132,38 @@ fn two_tests(nodes: &[i64; 2560], at: usize, left: usize, bounds: &[i64]) -> boo
 
 // ---- plans
 
-pub fn plan_magnitude(nodes: &[i64; 2560], at: usize, left: usize, bounds: &[i64]) -> Measured
+pub fn plan_magnitude(nodes: &[i64; 2560], at: usize, left: usize, bounds: &[i64]) -> u64
     requires { ⌜ PlanReady left (now nodes) at × InBounds (now bounds) ⌝ }
     ensures { λ r. ⌜ r ≡ measuredPlan (boundIn (now (bounds .entry))) (planAt natOf left (now (nodes .entry)) at) ⌝ }
 {
     let letter = node::plan_kind(nodes, at);
     match letter {
-        PlanLetter::Nothing => Measured::Within(Pence(0)),
-        PlanLetter::Transfer => Measured::Within(Pence(1)),
+        PlanLetter::Nothing => 0,
+        PlanLetter::Transfer => 1,
         PlanLetter::Scale => {
             let x = operand(nodes, at + 1, 512, bounds);
             let next = nodes::link(nodes, at, 3);
             if node::is_transfer(nodes, next) {
-                return product_of(Two {
-                    first: x,
-                    second: Measured::Within(Pence(1)),
-                });
+                return x;
             }
             let y = plan_magnitude(nodes, next, left - 1, bounds);
-            product_of(Two {
-                first: x,
-                second: y,
-            })
+            limit::product_of(x, y)
         }
         PlanLetter::Later => plan_magnitude(nodes, at + 1, left - 1, bounds),
         PlanLetter::Both => {
             let x = plan_magnitude(nodes, at + 1, left - 1, bounds);
             let y = plan_magnitude(nodes, nodes::link(nodes, at, 3), left - 1, bounds);
-            sum_of(Two {
-                first: x,
-                second: y,
-            })
+            limit::sum_of(x, y)
         }
         PlanLetter::Within => {
             let t = test_small(nodes, at + 1, 512, bounds);
             let x = plan_magnitude(nodes, nodes::link(nodes, at, 3), left - 1, bounds);
             let y = plan_magnitude(nodes, nodes::link(nodes, at, 4), left - 1, bounds);
             if t {
-                return greater_of(Two {
-                    first: x,
-                    second: y,
-                });
+                return limit::greater_of(x, y);
             }
-            Measured::Beyond
+            limit::BEYOND
         }
-        PlanLetter::NoPlan => Measured::Within(Pence(0)),
+        PlanLetter::NoPlan => 0,
     }
 }

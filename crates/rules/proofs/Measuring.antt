@@ -1,28 +1,32 @@
 -- The rules of a filled plan in their order, as the code goes through them.
 use Prim.Native.Nat.{_+_, _≤_, ℕ}
-use borrow.Author.Tests.{le-leb, lt-leb}
+use borrow.Author.Tests.{le-leb, leb-true, lt-leb}
 use lib.Dec.{T, leb}
 use lib.IntN.{_+ℤ_, natAbs, negsuc, pos, ℤ}
 use lib.Signed.{ltZ, nonNeg}
 use mathlib.Core.Bool.{Bool, false, true}
 use mathlib.Core.List.{List, []}
 use mathlib.Core.Path.{_∙_, _≡_, ap, refl, sym}
+use mir.Facts.{toZ-pos}
+use mir.Syntax.{w64}
+use mir.Val.{SFits, toZ}
 use native.Mathlib.Omega.{arith}
+use Rattle.integers.proofs.Laws.{sfits64}
 use Rattle.integers.proofs.Tests.{lt-false, lt-true}
 use Rattle.integers.specs.Bounded.{Small}
 use Rattle.integers.specs.declared.Month.{Month}
 use Rattle.integers.specs.declared.Pence.{Pence}
 use Rattle.language.specs.Answer.{Answer}
 use Rattle.language.specs.Calls.{Checked, meetsRules}
+use Rattle.language.specs.Limits.{maxAmount}
 use Rattle.language.specs.Rules.Measures.{lengthOf, magnitudeOf}
 use Rattle.language.specs.Rules.Table.{Table}
 use Rattle.language.specs.Rules.Tests.{knownInTime, planReads, planSmall}
 use Rattle.language.specs.Text.Trees.{Plan}
+use Rattle.measures.proofs.PlanMagnitudes.{plan-within}
 use Rattle.measures.proofs.SameReads.{span-reads}
-use Rattle.measures.specs.Magnitudes.{boundIn, measured, measuredPlan}
+use Rattle.measures.specs.Magnitudes.{boundIn, measuredPlan}
 use Rattle.measures.specs.Spans as reads
-use Rattle.measures.specs.declared.limit.Measured.{Measured}
-use Rattle.measures.specs.declared.limit.Measured.the-variants.{Beyond, Within}
 use Rattle.measures.specs.declared.reads.Reach.{Reach}
 use Rattle.nodes.specs.Table.{natOf}
 use Rattle.rules.specs.Answers.{Natural, checkingAnswer}
@@ -38,6 +42,14 @@ from-zero (negsuc n) h = absurd h
 
 pub few-months : (today : ℤ) (s : Reach) (bounds : List ℤ) → InTable today (s .h) (s .f) (s .labels) bounds → Small today
 few-months today s bounds h = record { small = omega (arith, h .todayTo) }
+
+-- a magnitude within the limit as a signed number
+module _ {m : ℕ} (w : leb m maxAmount ≡ true) where
+  pub amount-fits : SFits w64 (pos m)
+  amount-fits = sfits64 maxAmount (leb-true m maxAmount w) tt
+
+  pub amount-read : toZ w64 m ≡ pos m
+  amount-read = toZ-pos w64 (omega (arith, leb-true m maxAmount w))
 
 natural : (z : ℤ) → natOf z ≤ natAbs z
 natural (pos n) = omega arith
@@ -93,29 +105,16 @@ module _ (today : ℤ) (s : Reach) (bounds : List ℤ) (x : Plan ℕ) (h : InTab
       late n o = rw (within-f (l .0) e c, sym (reads-is r) ∙ q, sym n ∙ o) refl
 
       module _ {k : Bool} (n : k ≡ knownInTime x) (o : k ≡ true) where
-        by-magnitude : (v : Bool) → planSmall (boundIn bounds) x ≡ v → {m : Measured} → m ≡ measured v (magnitudeOf (boundIn bounds) x) → (p : Pence) → m ≡ Within p → (planSmall (boundIn bounds) x ≡ true) × (p .0 ≡ pos (magnitudeOf (boundIn bounds) x))
-        by-magnitude true w d p g = (w, ap (λ y. y .0) (same (sym g ∙ d)))
-          where
-            same : Within p ≡ Within (record { 0 = pos (magnitudeOf (boundIn bounds) x) }) → p ≡ record { 0 = pos (magnitudeOf (boundIn bounds) x) }
-            same i = cc
-        by-magnitude false w d p g = let z : _≡_ {A = ℕ} 0 1 = differ (sym g ∙ d) in absurd (omega arith)
-          where
-            differ : Within p ≡ Beyond → _≡_ {A = ℕ} 0 1
-            differ i = cc
+        is-small : {m : ℕ} → m ≡ measuredPlan (boundIn bounds) x → (v : Bool) → leb m maxAmount ≡ v → planSmall (boundIn bounds) x ≡ v
+        is-small d v w = sym (plan-within (boundIn bounds) x d) ∙ w
 
-        not-small : (v : Bool) → planSmall (boundIn bounds) x ≡ v → {m : Measured} → m ≡ measured v (magnitudeOf (boundIn bounds) x) → m ≡ Beyond → planSmall (boundIn bounds) x ≡ false
-        not-small false w d g = w
-        not-small true w d g = let z : _≡_ {A = ℕ} 0 1 = differ (sym g ∙ d) in absurd (omega arith)
-          where
-            differ : Beyond ≡ Within (record { 0 = pos (magnitudeOf (boundIn bounds) x) }) → _≡_ {A = ℕ} 0 1
-            differ i = cc
-
-        pub accepted : {m : Measured} → m ≡ measuredPlan (boundIn bounds) x → (p : Pence) → m ≡ Within p → (checkingAnswer (Accepted l p) ≡ answer) × Natural (Accepted l p)
+        pub accepted : {m : ℕ} → m ≡ measuredPlan (boundIn bounds) x → leb m maxAmount ≡ true → (p : Pence) → p .0 ≡ pos m → (checkingAnswer (Accepted l p) ≡ answer) × Natural (Accepted l p)
         unfolding checkingAnswer meetsRules
-        accepted d p g =
-            let y = by-magnitude (planSmall (boundIn bounds) x) refl d p g in
-            rw (within-f (l .0) e c, sym (reads-is r) ∙ q, sym n ∙ o, y .0) (rw (e, y .1) (refl, (tt, tt)))
+        accepted {m} d w p g =
+            let y = is-small d true w in
+            let z : m ≡ magnitudeOf (boundIn bounds) x = rw y at d in
+            rw (within-f (l .0) e c, sym (reads-is r) ∙ q, sym n ∙ o, y) (rw (e, g, z) (refl, (tt, tt)))
 
-        pub too-great : {m : Measured} → m ≡ measuredPlan (boundIn bounds) x → m ≡ Beyond → checkingAnswer (Refused Magnitude) ≡ answer
+        pub too-great : {m : ℕ} → m ≡ measuredPlan (boundIn bounds) x → leb m maxAmount ≡ false → checkingAnswer (Refused Magnitude) ≡ answer
         unfolding checkingAnswer meetsRules
-        too-great d g = rw (within-f (l .0) e c, sym (reads-is r) ∙ q, sym n ∙ o, not-small (planSmall (boundIn bounds) x) refl d g) refl
+        too-great d w = rw (within-f (l .0) e c, sym (reads-is r) ∙ q, sym n ∙ o, is-small d false w) refl

@@ -10,7 +10,6 @@ ghost use Rattle.rules.specs.Measured.{InTable, measuredBy};
 ghost use Rattle.rules.specs.Standing.{Stands};
 use integers::Month;
 use integers::Pence;
-use measures::limit::Measured;
 use measures::reads::Reach;
 use tables::Span;
 use tables::fill::Filling;
@@ -35,9 +34,10 @@ pub fn measure(nodes: &[i64; 2560], today: Month, reach: Reach, bounds: &[i64]) 
     if measures::reads::plan_reads(nodes, 0, 32, today, today, reach) {
         if measures::first::known_in_time(nodes, 0, 32) {
             let m = measures::magnitude::plan_magnitude(nodes, 0, 32, bounds);
-            match m {
-                Measured::Within(p) => Checking::Accepted(length, p),
-                Measured::Beyond => Checking::Refused(Refusal::Magnitude),
+            if measures::limit::is_within(m) {
+                Checking::Accepted(length, Pence(m as i64))
+            } else {
+                Checking::Refused(Refusal::Magnitude)
             }
         } else {
             Checking::Refused(Refusal::NotInTime)

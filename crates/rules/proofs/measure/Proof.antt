@@ -1,4 +1,5 @@
 use borrow.Author.Needs.{needs}
+use mathlib.Core.Path.{_∙_, sym}
 use mir.Facts.{toZ-ofZ}
 use mir.Syntax.{w64}
 use mir.Val.{SFits}
@@ -6,7 +7,7 @@ use native.Mathlib.Omega.{arith}
 use Rattle.measures.proofs.Lengths.{few, length-bound}
 use Rattle.nodes.specs.Found.{planAt}
 use Rattle.nodes.specs.Table.{natOf}
-use Rattle.rules.proofs.Measuring.{accepted, few-months, in-reach, late, too-great, too-long, unread}
+use Rattle.rules.proofs.Measuring.{accepted, amount-fits, amount-read, few-months, in-reach, late, too-great, too-long, unread}
 use Rattle.rules.proofs.measure.Lts as lts
 use Rattle.rules.proofs.measure.Reads as reads
 use Rattle.rules.proofs.measure.Statement.{statement}
@@ -14,6 +15,7 @@ use Rattle.rules.proofs.measure.Tie as tie
 use Rattle.integers.proofs.later.Reads as later-reads
 use Rattle.measures.proofs.first.known_in_time.Reads as known-in-time-reads
 use Rattle.measures.proofs.length.plan_length.Reads as plan-length-reads
+use Rattle.measures.proofs.limit.is_within.Reads as is-within-reads
 use Rattle.measures.proofs.magnitude.plan_magnitude.Reads as plan-magnitude-reads
 use Rattle.measures.proofs.reads.plan_reads.Reads as plan-reads-reads
 
@@ -50,15 +52,15 @@ plan-magnitude-requires c κs =
     let s = c .before .before .before .before .before .before .before .before .before .before .before in
     (s .pre .0, s .pre .1 .bounded)
 
-enum-known-m : tie.Need-enum-known-m
-enum-known-m c = search needs
+is-within-requires : tie.Need-is-within-requires
+is-within-requires c κs = search needs
 
-enum-told : tie.Need-enum-told
-enum-told c = search needs
+cast-t16 : tie.Need-cast-t16
+cast-t16 c = amount-fits (sym (c .before .is-within .ensures) ∙ c .if4 .taken)
 
 returns-2 : tie.Need-returns-2
 returns-2 c =
-    let i = c .before .before .before .before .before .before .before .before in
+    let i = c .before .before .before .before .before .before .before in
     let s = i .before .before .before .before .before .before .before in
     let k = i .before .before .before .before .before .before .plan-length in
     let l = i .before .before .before .before .before .later in
@@ -66,7 +68,8 @@ returns-2 c =
     let g : SFits w64 (l .result .0) = search needs in
     let x = planAt natOf 32 (s .args .nodes .now) 0 in
     let t = rw (toZ-ofZ f, toZ-ofZ g, l .ensures) at (i .if1 .left) in
-    accepted (s .args .today .0) (s .args .reach) (s .args .bounds .now) x (s .pre .1) (k .result) (k .ensures) t (c .before .before .before .before .before .before .before .plan-reads .ensures) (c .before .before .before .before .before .before .if2 .taken) (c .before .before .before .before .before .known-in-time .ensures) (c .before .before .before .before .if3 .taken) (c .before .before .before .plan-magnitude .ensures) _ (c .before .m .given .1)
+    let w = sym (c .before .is-within .ensures) ∙ c .if4 .taken in
+    accepted (s .args .today .0) (s .args .reach) (s .args .bounds .now) x (s .pre .1) (k .result) (k .ensures) t (c .before .before .before .before .before .before .plan-reads .ensures) (c .before .before .before .before .before .if2 .taken) (c .before .before .before .before .known-in-time .ensures) (c .before .before .before .if3 .taken) (c .before .before .plan-magnitude .ensures) w _ (amount-read w)
 
 returns-3 : tie.Need-returns-3
 returns-3 c =
@@ -78,7 +81,8 @@ returns-3 c =
     let g : SFits w64 (l .result .0) = search needs in
     let x = planAt natOf 32 (s .args .nodes .now) 0 in
     let t = rw (toZ-ofZ f, toZ-ofZ g, l .ensures) at (i .if1 .left) in
-    (too-great (s .args .today .0) (s .args .reach) (s .args .bounds .now) x (s .pre .1) (k .result) (k .ensures) t (c .before .before .before .before .before .before .plan-reads .ensures) (c .before .before .before .before .before .if2 .taken) (c .before .before .before .before .known-in-time .ensures) (c .before .before .before .if3 .taken) (c .before .before .plan-magnitude .ensures) (c .enum-told .given .1), tt)
+    let w = sym (c .before .is-within .ensures) ∙ c .if4 .left in
+    (too-great (s .args .today .0) (s .args .reach) (s .args .bounds .now) x (s .pre .1) (k .result) (k .ensures) t (c .before .before .before .before .before .before .plan-reads .ensures) (c .before .before .before .before .before .if2 .taken) (c .before .before .before .before .known-in-time .ensures) (c .before .before .before .if3 .taken) (c .before .before .plan-magnitude .ensures) w, tt)
 
 returns-4 : tie.Need-returns-4
 returns-4 c =
@@ -114,8 +118,8 @@ measure-spec =
     plan-reads-requires
     known-in-time-requires
     plan-magnitude-requires
-    enum-known-m
-    enum-told
+    is-within-requires
+    cast-t16
     returns-2
     returns-3
     returns-4

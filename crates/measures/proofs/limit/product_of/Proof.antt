@@ -3,57 +3,30 @@ use Rattle.measures.proofs.Joins as laws
 use Rattle.measures.proofs.limit.product_of.Statement.{statement}
 use Rattle.measures.proofs.limit.product_of.Tie as tie
 use borrow.Author.Needs.{needs}
-
-enum-known-a : tie.Need-enum-known-a
-enum-known-a c = search needs
-
-enum-told : tie.Need-enum-told
-enum-told c = search needs
+use native.Mathlib.Omega.{arith}
 
 returns : tie.Need-returns
-returns c = laws.first-beyond _*_ (c .before .before .args .two .first) (c .before .before .args .two .second) (c .enum-told .given .1)
-
-enum-known-b : tie.Need-enum-known-b
-enum-known-b c = search needs
-
-enum-told-2 : tie.Need-enum-told-2
-enum-told-2 c = search needs
+returns c = laws.first-beyond _*_ _ _ (c .if1 .taken)
 
 returns-2 : tie.Need-returns-2
-returns-2 c =
-    let the-two-first = c .before .before .before .before .before .args .two .first in
-    let the-two-second = c .before .before .before .before .before .args .two .second in
-    let a-told = c .before .before .before .a .given .1 in
-    laws.second-beyond _*_ the-two-first the-two-second a-told (c .enum-told2 .given .1)
-
-product-requires : tie.Need-product-requires
-product-requires c κs =
-    let a-told = c .before .before .before .before .a .given .1 in
-    let pre-0-small = c .before .before .before .before .before .before .pre .0 .small in
-    let pre-1-small = c .before .before .before .before .before .before .pre .1 .small in
-    (pre-0-small _ a-told, pre-1-small _ (c .before .b .given .1))
-
-measured-of-requires : tie.Need-measured-of-requires
-measured-of-requires c κs = search needs
+returns-2 c = laws.second-beyond _*_ _ _ (c .if2 .taken)
 
 returns-3 : tie.Need-returns-3
-returns-3 c =
-    let pre-0 = c .before .before .before .before .before .before .before .before .pre .0 in
-    let pre-1 = c .before .before .before .before .before .before .before .before .pre .1 in
-    let a-told = c .before .before .before .before .before .before .a .given .1 in
-    let b-told = c .before .before .before .b .given .1 in
-    laws.product-joined pre-0 pre-1 a-told b-told (c .before .product .ensures) (c .measured-of .ensures)
+returns-3 c = laws.product-zero _ _ (c .before .before .if1 .left) (c .if3 .taken)
+
+div-if4 : tie.Need-div-if4
+div-if4 c = search needs
+
+returns-4 : tie.Need-returns-4
+returns-4 c = laws.product-beyond _ _ (c .before .if3 .left) (c .if4 .taken)
+
+mul-result : tie.Need-mul-result
+mul-result c = omega (arith, laws.product-limit _ _ (c .before .if3 .left) (c .if4 .left))
+
+returns-5 : tie.Need-returns-5
+returns-5 c =
+    let i = c .before .before in
+    laws.within-joined _*_ _ _ (i .before .if1 .left) (i .if2 .left) (laws.product-limit _ _ (c .before .if3 .left) (c .if4 .left))
 
 pub product-of-spec : {M : Type 1} → statement M
-product-of-spec =
-    tie.close
-    (tie.spec
-    enum-known-a
-    enum-told
-    returns
-    enum-known-b
-    enum-told-2
-    returns-2
-    product-requires
-    measured-of-requires
-    returns-3)
+product-of-spec = tie.close (tie.spec returns returns-2 returns-3 div-if4 returns-4 mul-result returns-5)

@@ -1,5 +1,6 @@
 use Prim.Native.Nat.{_-_, _<_, ℕ}
 use Rattle.measures.proofs.AmountMagnitudes as amounts
+use Rattle.measures.proofs.Joins.{once-joined}
 use Rattle.measures.proofs.PlanMagnitudes as laws
 use Rattle.measures.proofs.Plans as plans
 use Rattle.measures.proofs.limit.greater_of.Reads as greater-of-reads
@@ -51,10 +52,10 @@ plan-magnitude-calls t = (
   link-reads.Learnt,
   is-transfer-reads.Asked,
   is-transfer-reads.Learnt,
-  product-of-reads.Asked,
-  product-of-reads.Learnt,
   plan-magnitude-below t,
   plan-magnitude.Post,
+  product-of-reads.Asked,
+  product-of-reads.Learnt,
   sum-of-reads.Asked,
   sum-of-reads.Learnt,
   test-small-reads.Asked,
@@ -95,25 +96,16 @@ plan-magnitude-is-transfer-requires t c κs =
     let q = c .before .before .enum-told3 .given .1 in
     rw (c .link .ensures) (plans.plan-room (plans.scale-ready h k q .2))
 
-plan-magnitude-product-of-requires : (t : ℕ) → plan-magnitude-lts.Need-product-of-requires (plan-magnitude-calls t) (plan-magnitude-at t) plan-magnitude.Post
-plan-magnitude-product-of-requires t c κs =
+plan-magnitude-returns : (t : ℕ) → plan-magnitude-lts.Need-returns (plan-magnitude-calls t) (plan-magnitude-at t) plan-magnitude.Post
+plan-magnitude-returns t c =
     let h = c .before .before .before .before .before .before .before .pre .1 .0 in
     let k = c .before .before .before .before .before .before .plan-kind .ensures in
     let q = c .before .before .before .before .enum-told3 .given .1 in
     let b = c .before .before .before .before .before .before .before .args .bounds .now in
     let a = c .before .before .before .before .before .before .before .args in
+    let x = c .before .before .before .operand .ensures in
     let r : PlanReady (a .left - 1) (a .nodes .now) (c .before .before .link .result) = rw (c .before .before .link .ensures) (plans.scale-ready h k q .2) in
-    (amounts.amount-kept _ _ (c .before .before .before .operand .ensures), laws.plan-kept _ _ (laws.transfer-magnitude b r refl (c .before .is-transfer .ensures (c .if1 .taken))))
-
-plan-magnitude-returns : (t : ℕ) → plan-magnitude-lts.Need-returns (plan-magnitude-calls t) (plan-magnitude-at t) plan-magnitude.Post
-plan-magnitude-returns t c =
-    let h = c .before .before .before .before .before .before .before .before .pre .1 .0 in
-    let k = c .before .before .before .before .before .before .before .plan-kind .ensures in
-    let q = c .before .before .before .before .before .enum-told3 .given .1 in
-    let b = c .before .before .before .before .before .before .before .before .args .bounds .now in
-    let a = c .before .before .before .before .before .before .before .before .args in
-    let r : PlanReady (a .left - 1) (a .nodes .now) (c .before .before .before .link .result) = rw (c .before .before .before .link .ensures) (plans.scale-ready h k q .2) in
-    laws.scale-magnitude b h k q (c .before .before .before .link .ensures) (c .before .before .before .before .operand .ensures) (laws.transfer-magnitude b r refl (c .before .before .is-transfer .ensures (c .before .if1 .taken))) (c .product-of .ensures)
+    laws.scale-magnitude b h k q (c .before .before .link .ensures) x (laws.transfer-magnitude b r refl (c .before .is-transfer .ensures (c .if1 .taken))) (once-joined _ (amounts.amount-kept _ _ x))
 
 plan-magnitude-sub-plan-magnitude : (t : ℕ) → plan-magnitude-lts.Need-sub-plan-magnitude (plan-magnitude-calls t) (plan-magnitude-at t) plan-magnitude.Post
 plan-magnitude-sub-plan-magnitude t c =
@@ -126,9 +118,6 @@ plan-magnitude-plan-magnitude-requires t c κs =
     let k = c .before .before .before .before .before .before .plan-kind .ensures in
     let q = c .before .before .before .before .enum-told3 .given .1 in
     (omega (arith, plans.plan-some h), rw (c .before .before .link .ensures) (plans.scale-ready h k q .2, c .before .before .before .before .before .before .before .pre .1 .1))
-
-plan-magnitude-product-of-requires-2 : (t : ℕ) → plan-magnitude-lts.Need-product-of-requires-2 (plan-magnitude-calls t) (plan-magnitude-at t) plan-magnitude.Post
-plan-magnitude-product-of-requires-2 t c κs = (amounts.amount-kept _ _ (c .before .before .before .before .operand .ensures), laws.plan-kept _ _ (c .plan-magnitude .ensures))
 
 plan-magnitude-add-plan-magnitude : (t : ℕ) → plan-magnitude-lts.Need-add-plan-magnitude (plan-magnitude-calls t) (plan-magnitude-at t) plan-magnitude.Post
 plan-magnitude-add-plan-magnitude t c =
@@ -282,7 +271,7 @@ plan-magnitude-returns-5 t c =
     let k = c .before .before .before .before .before .before .before .before .plan-kind .ensures in
     let q = c .before .before .before .before .before .before .enum-told3 .given .1 in
     let b = c .before .before .before .before .before .before .before .before .before .args .bounds .now in
-    laws.scale-magnitude b h k q (c .before .before .before .before .link .ensures) (c .before .before .before .before .before .operand .ensures) (c .before .plan-magnitude .ensures) (c .product-of2 .ensures)
+    laws.scale-magnitude b h k q (c .before .before .before .before .link .ensures) (c .before .before .before .before .before .operand .ensures) (c .before .plan-magnitude .ensures) (c .product-of .ensures)
 
 plan-magnitude-returns-6 : (t : ℕ) → plan-magnitude-lts.Need-returns-6 (plan-magnitude-calls t) (plan-magnitude-at t) plan-magnitude.Post
 plan-magnitude-returns-6 t c =
@@ -329,11 +318,10 @@ plan-magnitude-part t =
     (plan-magnitude-operand-requires t)
     (plan-magnitude-link-requires t)
     (plan-magnitude-is-transfer-requires t)
-    (plan-magnitude-product-of-requires t)
     (plan-magnitude-returns t)
     (plan-magnitude-sub-plan-magnitude t)
     (plan-magnitude-plan-magnitude-requires t)
-    (plan-magnitude-product-of-requires-2 t)
+    (λ c κs. search needs)
     (λ c. search needs)
     (plan-magnitude-add-plan-magnitude t)
     (plan-magnitude-sub-plan-magnitude-2 t)

@@ -1,17 +1,18 @@
 use Prim.Native.Nat.{_*_, _+_, _<_, ℕ}
 use Rattle.measures.proofs.AmountMagnitudes as laws
 use Rattle.measures.proofs.Amounts as amounts
-use Rattle.measures.proofs.limit.both_within.Reads as both-within-reads
 use Rattle.measures.proofs.limit.greater_of.Reads as greater-of-reads
+use Rattle.measures.proofs.limit.is_within.Reads as is-within-reads
 use Rattle.measures.proofs.limit.product_of.Reads as product-of-reads
 use Rattle.measures.proofs.limit.sum_of.Reads as sum-of-reads
-use Rattle.measures.proofs.magnitude.+amount_magnitude+operand+test_small+two_amounts+two_tests.Lts-amount_magnitude as amount-magnitude-lts
-use Rattle.measures.proofs.magnitude.+amount_magnitude+operand+test_small+two_amounts+two_tests.Lts-operand as operand-lts
-use Rattle.measures.proofs.magnitude.+amount_magnitude+operand+test_small+two_amounts+two_tests.Lts-test_small as test-small-lts
-use Rattle.measures.proofs.magnitude.+amount_magnitude+operand+test_small+two_amounts+two_tests.Lts-two_amounts as two-amounts-lts
-use Rattle.measures.proofs.magnitude.+amount_magnitude+operand+test_small+two_amounts+two_tests.Lts-two_tests as two-tests-lts
-use Rattle.measures.proofs.magnitude.+amount_magnitude+operand+test_small+two_amounts+two_tests.Tie.{close}
-use Rattle.measures.proofs.magnitude.+amount_magnitude+operand+test_small+two_amounts+two_tests.{statement}
+use Rattle.measures.proofs.magnitude.+amount_magnitude+operand+test_small+two_small+two_summed+two_tests.Lts-amount_magnitude as amount-magnitude-lts
+use Rattle.measures.proofs.magnitude.+amount_magnitude+operand+test_small+two_small+two_summed+two_tests.Lts-operand as operand-lts
+use Rattle.measures.proofs.magnitude.+amount_magnitude+operand+test_small+two_small+two_summed+two_tests.Lts-test_small as test-small-lts
+use Rattle.measures.proofs.magnitude.+amount_magnitude+operand+test_small+two_small+two_summed+two_tests.Lts-two_small as two-small-lts
+use Rattle.measures.proofs.magnitude.+amount_magnitude+operand+test_small+two_small+two_summed+two_tests.Lts-two_summed as two-summed-lts
+use Rattle.measures.proofs.magnitude.+amount_magnitude+operand+test_small+two_small+two_summed+two_tests.Lts-two_tests as two-tests-lts
+use Rattle.measures.proofs.magnitude.+amount_magnitude+operand+test_small+two_small+two_summed+two_tests.Tie.{close}
+use Rattle.measures.proofs.magnitude.+amount_magnitude+operand+test_small+two_small+two_summed+two_tests.{statement}
 use Rattle.measures.proofs.magnitude.amount_magnitude.Kinds as amount-magnitude-kinds
 use Rattle.measures.proofs.magnitude.amount_magnitude.Reads as amount-magnitude
 use Rattle.measures.proofs.magnitude.bound_of.Reads as bound-of-reads
@@ -20,20 +21,23 @@ use Rattle.measures.proofs.magnitude.operand.Kinds as operand-kinds
 use Rattle.measures.proofs.magnitude.operand.Reads as operand
 use Rattle.measures.proofs.magnitude.test_small.Kinds as test-small-kinds
 use Rattle.measures.proofs.magnitude.test_small.Reads as test-small
-use Rattle.measures.proofs.magnitude.two_amounts.Kinds as two-amounts-kinds
-use Rattle.measures.proofs.magnitude.two_amounts.Reads as two-amounts
+use Rattle.measures.proofs.magnitude.two_small.Kinds as two-small-kinds
+use Rattle.measures.proofs.magnitude.two_summed.Kinds as two-summed-kinds
+use Rattle.measures.proofs.magnitude.two_small.Reads as two-small
+use Rattle.measures.proofs.magnitude.two_summed.Reads as two-summed
 use Rattle.measures.proofs.magnitude.two_tests.Kinds as two-tests-kinds
 use Rattle.measures.proofs.magnitude.two_tests.Reads as two-tests
 use Rattle.measures.proofs.node.amount_kind.Reads as amount-kind-reads
 use Rattle.measures.proofs.node.label.Reads as label-reads
 use Rattle.measures.proofs.node.test_kind.Reads as test-kind-reads
+use Rattle.measures.specs.Magnitudes.{joined}
 use Rattle.nodes.proofs.link.Reads as link-reads
 use Rattle.nodes.proofs.slot.Reads as slot-reads
 use borrow.Author.Needs.{needs}
 use borrow.Fn.Kinds.{In}
 use borrow.Fn.PlainCycle.{Measures, and, falls, is}
 use mathlib.Core.Bool.{_&&_}
-use mathlib.Core.Path.{ap₂, refl}
+use mathlib.Core.Path.{_∙_, ap₂, refl}
 use mir.Syntax.{w64}
 use mir.Val.{SFits}
 use native.Mathlib.Omega.{arith}
@@ -47,8 +51,11 @@ abbrev μ-operand : Measures 2 operand-kinds.ps ℕ
 abbrev μ-test-small : Measures 2 test-small-kinds.ps ℕ
 μ-test-small κs a = 3 * a .1 .1 .0
 
-abbrev μ-two-amounts : Measures 2 two-amounts-kinds.ps ℕ
-μ-two-amounts κs a = 3 * a .1 .1 .0 + 2
+abbrev μ-two-small : Measures 2 two-small-kinds.ps ℕ
+μ-two-small κs a = 3 * a .1 .1 .0 + 2
+
+abbrev μ-two-summed : Measures 2 two-summed-kinds.ps ℕ
+μ-two-summed κs a = 3 * a .1 .1 .0 + 2
 
 abbrev μ-two-tests : Measures 2 two-tests-kinds.ps ℕ
 μ-two-tests κs a = 3 * a .1 .1 .0 + 2
@@ -83,13 +90,21 @@ abbrev test-small-below : ℕ → In 2 test-small-kinds.ps
 test-small-below t =
     and 2 test-small-kinds.ps (falls 2 test-small-kinds.ps _<_ μ-test-small t) test-small.Pre
 
-abbrev two-amounts-at : ℕ → In 2 two-amounts-kinds.ps
-two-amounts-at t =
-    and 2 two-amounts-kinds.ps (is 2 two-amounts-kinds.ps μ-two-amounts t) two-amounts.Pre
+abbrev two-small-at : ℕ → In 2 two-small-kinds.ps
+two-small-at t =
+    and 2 two-small-kinds.ps (is 2 two-small-kinds.ps μ-two-small t) two-small.Pre
 
-abbrev two-amounts-below : ℕ → In 2 two-amounts-kinds.ps
-two-amounts-below t =
-    and 2 two-amounts-kinds.ps (falls 2 two-amounts-kinds.ps _<_ μ-two-amounts t) two-amounts.Pre
+abbrev two-summed-at : ℕ → In 2 two-summed-kinds.ps
+two-summed-at t =
+    and 2 two-summed-kinds.ps (is 2 two-summed-kinds.ps μ-two-summed t) two-summed.Pre
+
+abbrev two-small-below : ℕ → In 2 two-small-kinds.ps
+two-small-below t =
+    and 2 two-small-kinds.ps (falls 2 two-small-kinds.ps _<_ μ-two-small t) two-small.Pre
+
+abbrev two-summed-below : ℕ → In 2 two-summed-kinds.ps
+two-summed-below t =
+    and 2 two-summed-kinds.ps (falls 2 two-summed-kinds.ps _<_ μ-two-summed t) two-summed.Pre
 
 abbrev two-tests-at : ℕ → In 2 two-tests-kinds.ps
 two-tests-at t = and 2 two-tests-kinds.ps (is 2 two-tests-kinds.ps μ-two-tests t) two-tests.Pre
@@ -108,18 +123,18 @@ amount-magnitude-calls t = (
   label-reads.Learnt,
   bound-of-reads.Asked,
   bound-of-reads.Learnt,
-  two-amounts-below t,
-  two-amounts.Post,
-  sum-of-reads.Asked,
-  sum-of-reads.Learnt,
+  two-summed-below t,
+  two-summed.Post,
+  operand-below t,
+  operand.Post,
+  link-reads.Asked,
+  link-reads.Learnt,
   product-of-reads.Asked,
   product-of-reads.Learnt,
   amount-magnitude-below t,
   amount-magnitude.Post,
   test-small-below t,
   test-small.Post,
-  link-reads.Asked,
-  link-reads.Learnt,
   greater-of-reads.Asked,
   greater-of-reads.Learnt,
 )
@@ -134,65 +149,76 @@ amount-magnitude-distance-requires t c κs =
     let h = c .before .before .before .pre .1 .0 in
     let k = c .before .before .amount-kind .ensures in
     let q = c .enum-told .given .1 in
-    (amounts.amount-room h, record { small = amounts.number-ready h k q })
+    amounts.amount-room h
 
 amount-magnitude-label-requires : (t : ℕ) → amount-magnitude-lts.Need-label-requires (amount-magnitude-calls t) (amount-magnitude-at t) amount-magnitude.Post
 amount-magnitude-label-requires t c κs =
     let h = c .before .before .before .pre .1 .0 in
     amounts.amount-room h
 
-amount-magnitude-bound-of-requires : (t : ℕ) → amount-magnitude-lts.Need-bound-of-requires (amount-magnitude-calls t) (amount-magnitude-at t) amount-magnitude.Post
-amount-magnitude-bound-of-requires t c κs =
-    let m = c .before .before .before .before .pre .1 .1 in
-    m
-
-amount-magnitude-sub-two-amounts : (t : ℕ) → amount-magnitude-lts.Need-sub-two-amounts (amount-magnitude-calls t) (amount-magnitude-at t) amount-magnitude.Post
-amount-magnitude-sub-two-amounts t c =
+amount-magnitude-sub-two-summed : (t : ℕ) → amount-magnitude-lts.Need-sub-two-summed (amount-magnitude-calls t) (amount-magnitude-at t) amount-magnitude.Post
+amount-magnitude-sub-two-summed t c =
     let h = c .before .before .before .pre .1 .0 in
     omega (arith, amounts.amount-some h)
 
-amount-magnitude-two-amounts-requires : (t : ℕ) → amount-magnitude-lts.Need-two-amounts-requires (amount-magnitude-calls t) (amount-magnitude-at t) amount-magnitude.Post
-amount-magnitude-two-amounts-requires t c κs =
+amount-magnitude-two-summed-requires : (t : ℕ) → amount-magnitude-lts.Need-two-summed-requires (amount-magnitude-calls t) (amount-magnitude-at t) amount-magnitude.Post
+amount-magnitude-two-summed-requires t c κs =
     let h = c .before .before .before .pre .1 .0 in
     let m = c .before .before .before .pre .1 .1 in
     let k = c .before .before .amount-kind .ensures in
     let q = c .enum-told3 .given .1 in
     (omega (arith, amounts.amount-some h), (amounts.sum-ready h k q, m))
 
-amount-magnitude-sum-of-requires : (t : ℕ) → amount-magnitude-lts.Need-sum-of-requires (amount-magnitude-calls t) (amount-magnitude-at t) amount-magnitude.Post
-amount-magnitude-sum-of-requires t c κs = (laws.amount-kept _ _ (c .two-amounts .ensures .0), laws.amount-kept _ _ (c .two-amounts .ensures .1))
-
-amount-magnitude-sub-two-amounts-2 : (t : ℕ) → amount-magnitude-lts.Need-sub-two-amounts-2 (amount-magnitude-calls t) (amount-magnitude-at t) amount-magnitude.Post
-amount-magnitude-sub-two-amounts-2 t c =
+amount-magnitude-sub-two-summed-2 : (t : ℕ) → amount-magnitude-lts.Need-sub-two-summed-2 (amount-magnitude-calls t) (amount-magnitude-at t) amount-magnitude.Post
+amount-magnitude-sub-two-summed-2 t c =
     let h = c .before .before .before .pre .1 .0 in
     omega (arith, amounts.amount-some h)
 
-amount-magnitude-two-amounts-requires-2 : (t : ℕ) → amount-magnitude-lts.Need-two-amounts-requires-2 (amount-magnitude-calls t) (amount-magnitude-at t) amount-magnitude.Post
-amount-magnitude-two-amounts-requires-2 t c κs =
+amount-magnitude-two-summed-requires-2 : (t : ℕ) → amount-magnitude-lts.Need-two-summed-requires-2 (amount-magnitude-calls t) (amount-magnitude-at t) amount-magnitude.Post
+amount-magnitude-two-summed-requires-2 t c κs =
     let h = c .before .before .before .pre .1 .0 in
     let m = c .before .before .before .pre .1 .1 in
     let k = c .before .before .amount-kind .ensures in
     let q = c .enum-told4 .given .1 in
     (omega (arith, amounts.amount-some h), (amounts.difference-ready h k q, m))
 
-amount-magnitude-sum-of-requires-2 : (t : ℕ) → amount-magnitude-lts.Need-sum-of-requires-2 (amount-magnitude-calls t) (amount-magnitude-at t) amount-magnitude.Post
-amount-magnitude-sum-of-requires-2 t c κs = (laws.amount-kept _ _ (c .two-amounts2 .ensures .0), laws.amount-kept _ _ (c .two-amounts2 .ensures .1))
+amount-magnitude-add-operand : (t : ℕ) → amount-magnitude-lts.Need-add-operand (amount-magnitude-calls t) (amount-magnitude-at t) amount-magnitude.Post
+amount-magnitude-add-operand t c =
+    let h = c .before .before .before .pre .1 .0 in
+    omega (arith, amounts.amount-room h)
 
-amount-magnitude-sub-two-amounts-3 : (t : ℕ) → amount-magnitude-lts.Need-sub-two-amounts-3 (amount-magnitude-calls t) (amount-magnitude-at t) amount-magnitude.Post
-amount-magnitude-sub-two-amounts-3 t c =
+amount-magnitude-sub-operand : (t : ℕ) → amount-magnitude-lts.Need-sub-operand (amount-magnitude-calls t) (amount-magnitude-at t) amount-magnitude.Post
+amount-magnitude-sub-operand t c =
     let h = c .before .before .before .pre .1 .0 in
     omega (arith, amounts.amount-some h)
 
-amount-magnitude-two-amounts-requires-3 : (t : ℕ) → amount-magnitude-lts.Need-two-amounts-requires-3 (amount-magnitude-calls t) (amount-magnitude-at t) amount-magnitude.Post
-amount-magnitude-two-amounts-requires-3 t c κs =
+amount-magnitude-operand-requires : (t : ℕ) → amount-magnitude-lts.Need-operand-requires (amount-magnitude-calls t) (amount-magnitude-at t) amount-magnitude.Post
+amount-magnitude-operand-requires t c κs =
     let h = c .before .before .before .pre .1 .0 in
     let m = c .before .before .before .pre .1 .1 in
     let k = c .before .before .amount-kind .ensures in
     let q = c .enum-told5 .given .1 in
-    (omega (arith, amounts.amount-some h), (amounts.product-ready h k q, m))
+    (omega (arith, amounts.amount-some h), (amounts.product-ready h k q .first, m))
 
-amount-magnitude-product-of-requires : (t : ℕ) → amount-magnitude-lts.Need-product-of-requires (amount-magnitude-calls t) (amount-magnitude-at t) amount-magnitude.Post
-amount-magnitude-product-of-requires t c κs = (laws.amount-kept _ _ (c .two-amounts3 .ensures .0), laws.amount-kept _ _ (c .two-amounts3 .ensures .1))
+amount-magnitude-link-requires : (t : ℕ) → amount-magnitude-lts.Need-link-requires (amount-magnitude-calls t) (amount-magnitude-at t) amount-magnitude.Post
+amount-magnitude-link-requires t c κs =
+    let h = c .before .before .before .before .pre .1 .0 in
+    let k = c .before .before .before .amount-kind .ensures in
+    let q = c .before .enum-told5 .given .1 in
+    (amounts.amount-room h, omega arith, amounts.product-ready h k q .forward)
+
+amount-magnitude-sub-operand-2 : (t : ℕ) → amount-magnitude-lts.Need-sub-operand-2 (amount-magnitude-calls t) (amount-magnitude-at t) amount-magnitude.Post
+amount-magnitude-sub-operand-2 t c =
+    let h = c .before .before .before .before .before .pre .1 .0 in
+    omega (arith, amounts.amount-some h)
+
+amount-magnitude-operand-requires-2 : (t : ℕ) → amount-magnitude-lts.Need-operand-requires-2 (amount-magnitude-calls t) (amount-magnitude-at t) amount-magnitude.Post
+amount-magnitude-operand-requires-2 t c κs =
+    let h = c .before .before .before .before .before .pre .1 .0 in
+    let m = c .before .before .before .before .before .pre .1 .1 in
+    let k = c .before .before .before .before .amount-kind .ensures in
+    let q = c .before .before .enum-told5 .given .1 in
+    (omega (arith, amounts.amount-some h), rw (c .link .ensures) (amounts.product-ready h k q .second, m))
 
 amount-magnitude-add-amount-magnitude : (t : ℕ) → amount-magnitude-lts.Need-add-amount-magnitude (amount-magnitude-calls t) (amount-magnitude-at t) amount-magnitude.Post
 amount-magnitude-add-amount-magnitude t c =
@@ -230,8 +256,8 @@ amount-magnitude-test-small-requires t c κs =
     let q = c .enum-told7 .given .1 in
     (omega (arith, amounts.amount-some h), (amounts.choose-ready h k q .0, m))
 
-amount-magnitude-link-requires : (t : ℕ) → amount-magnitude-lts.Need-link-requires (amount-magnitude-calls t) (amount-magnitude-at t) amount-magnitude.Post
-amount-magnitude-link-requires t c κs =
+amount-magnitude-link-requires-2 : (t : ℕ) → amount-magnitude-lts.Need-link-requires-2 (amount-magnitude-calls t) (amount-magnitude-at t) amount-magnitude.Post
+amount-magnitude-link-requires-2 t c κs =
     let h = c .before .before .before .before .pre .1 .0 in
     let k = c .before .before .before .amount-kind .ensures in
     let q = c .before .enum-told7 .given .1 in
@@ -248,10 +274,10 @@ amount-magnitude-amount-magnitude-requires-2 t c κs =
     let m = c .before .before .before .before .before .pre .1 .1 in
     let k = c .before .before .before .before .amount-kind .ensures in
     let q = c .before .before .enum-told7 .given .1 in
-    (omega (arith, amounts.amount-some h), rw (c .link .ensures) (amounts.choose-ready h k q .1 .1, m))
+    (omega (arith, amounts.amount-some h), rw (c .link2 .ensures) (amounts.choose-ready h k q .1 .1, m))
 
-amount-magnitude-link-requires-2 : (t : ℕ) → amount-magnitude-lts.Need-link-requires-2 (amount-magnitude-calls t) (amount-magnitude-at t) amount-magnitude.Post
-amount-magnitude-link-requires-2 t c κs =
+amount-magnitude-link-requires-3 : (t : ℕ) → amount-magnitude-lts.Need-link-requires-3 (amount-magnitude-calls t) (amount-magnitude-at t) amount-magnitude.Post
+amount-magnitude-link-requires-3 t c κs =
     let h = c .before .before .before .before .before .before .pre .1 .0 in
     let k = c .before .before .before .before .before .amount-kind .ensures in
     let q = c .before .before .before .enum-told7 .given .1 in
@@ -268,7 +294,7 @@ amount-magnitude-amount-magnitude-requires-3 t c κs =
     let m = c .before .before .before .before .before .before .before .pre .1 .1 in
     let k = c .before .before .before .before .before .before .amount-kind .ensures in
     let q = c .before .before .before .before .enum-told7 .given .1 in
-    (omega (arith, amounts.amount-some h), rw (c .link2 .ensures) (amounts.choose-ready h k q .2 .1, m))
+    (omega (arith, amounts.amount-some h), rw (c .link3 .ensures) (amounts.choose-ready h k q .2 .1, m))
 
 amount-magnitude-greater-of-requires : (t : ℕ) → amount-magnitude-lts.Need-greater-of-requires (amount-magnitude-calls t) (amount-magnitude-at t) amount-magnitude.Post
 amount-magnitude-greater-of-requires t c κs =
@@ -284,8 +310,8 @@ amount-magnitude-returns t c =
     let t = c .before .before .before .before .before .before .test-small .ensures in
     let x = c .before .before .before .before .amount-magnitude2 .ensures in
     let y = c .before .before .amount-magnitude3 .ensures in
-    let link-is = c .before .before .before .before .before .link .ensures in
-    let link2-is = c .before .before .before .link2 .ensures in
+    let link-is = c .before .before .before .before .before .link2 .ensures in
+    let link2-is = c .before .before .before .link3 .ensures in
     laws.choose-magnitude b h k q t (c .before .if1 .taken) link-is link2-is x y (c .greater-of .ensures)
 
 amount-magnitude-returns-2 : (t : ℕ) → amount-magnitude-lts.Need-returns-2 (amount-magnitude-calls t) (amount-magnitude-at t) amount-magnitude.Post
@@ -307,30 +333,28 @@ amount-magnitude-returns-3 t c =
 
 amount-magnitude-returns-4 : (t : ℕ) → amount-magnitude-lts.Need-returns-4 (amount-magnitude-calls t) (amount-magnitude-at t) amount-magnitude.Post
 amount-magnitude-returns-4 t c =
-    let h = c .before .before .before .before .before .pre .1 .0 in
-    let b = c .before .before .before .before .before .args .bounds .now in
-    let k = c .before .before .before .before .amount-kind .ensures in
-    let q = c .before .before .enum-told3 .given .1 in
-    let e = c .before .two-amounts .ensures in
-    laws.sum-magnitude b h k (e .0) (e .1) q (c .sum-of .ensures)
+    let h = c .before .before .before .before .pre .1 .0 in
+    let b = c .before .before .before .before .args .bounds .now in
+    let k = c .before .before .before .amount-kind .ensures in
+    let q = c .before .enum-told3 .given .1 in
+    laws.sum-magnitude b h k refl refl q (c .two-summed .ensures)
 
 amount-magnitude-returns-5 : (t : ℕ) → amount-magnitude-lts.Need-returns-5 (amount-magnitude-calls t) (amount-magnitude-at t) amount-magnitude.Post
 amount-magnitude-returns-5 t c =
-    let h = c .before .before .before .before .before .pre .1 .0 in
-    let b = c .before .before .before .before .before .args .bounds .now in
-    let k = c .before .before .before .before .amount-kind .ensures in
-    let q = c .before .before .enum-told4 .given .1 in
-    let e = c .before .two-amounts2 .ensures in
-    laws.difference-magnitude b h k (e .0) (e .1) q (c .sum-of2 .ensures)
+    let h = c .before .before .before .before .pre .1 .0 in
+    let b = c .before .before .before .before .args .bounds .now in
+    let k = c .before .before .before .amount-kind .ensures in
+    let q = c .before .enum-told4 .given .1 in
+    laws.difference-magnitude b h k refl refl q (c .two-summed2 .ensures)
 
 amount-magnitude-returns-6 : (t : ℕ) → amount-magnitude-lts.Need-returns-6 (amount-magnitude-calls t) (amount-magnitude-at t) amount-magnitude.Post
 amount-magnitude-returns-6 t c =
-    let h = c .before .before .before .before .before .pre .1 .0 in
-    let b = c .before .before .before .before .before .args .bounds .now in
-    let k = c .before .before .before .before .amount-kind .ensures in
-    let q = c .before .before .enum-told5 .given .1 in
-    let e = c .before .two-amounts3 .ensures in
-    laws.product-magnitude b h k (e .0) (e .1) q (c .product-of .ensures)
+    let h = c .before .before .before .before .before .before .before .pre .1 .0 in
+    let b = c .before .before .before .before .before .before .before .args .bounds .now in
+    let k = c .before .before .before .before .before .before .amount-kind .ensures in
+    let q = c .before .before .before .before .enum-told5 .given .1 in
+    let y = rw (c .before .before .link .ensures) at (c .before .operand2 .ensures) in
+    laws.product-magnitude b h k (c .before .before .before .operand .ensures) y q (c .product-of .ensures)
 
 amount-magnitude-returns-7 : (t : ℕ) → amount-magnitude-lts.Need-returns-7 (amount-magnitude-calls t) (amount-magnitude-at t) amount-magnitude.Post
 amount-magnitude-returns-7 t c =
@@ -364,19 +388,21 @@ amount-magnitude-part t =
     (amount-magnitude-distance-requires t)
     (λ c. search needs)
     (amount-magnitude-label-requires t)
-    (amount-magnitude-bound-of-requires t)
+    (λ c κs. search needs)
     (λ c. search needs)
-    (amount-magnitude-sub-two-amounts t)
-    (amount-magnitude-two-amounts-requires t)
-    (amount-magnitude-sum-of-requires t)
+    (amount-magnitude-sub-two-summed t)
+    (amount-magnitude-two-summed-requires t)
     (λ c. search needs)
-    (amount-magnitude-sub-two-amounts-2 t)
-    (amount-magnitude-two-amounts-requires-2 t)
-    (amount-magnitude-sum-of-requires-2 t)
+    (amount-magnitude-sub-two-summed-2 t)
+    (amount-magnitude-two-summed-requires-2 t)
     (λ c. search needs)
-    (amount-magnitude-sub-two-amounts-3 t)
-    (amount-magnitude-two-amounts-requires-3 t)
-    (amount-magnitude-product-of-requires t)
+    (amount-magnitude-add-operand t)
+    (amount-magnitude-sub-operand t)
+    (amount-magnitude-operand-requires t)
+    (amount-magnitude-link-requires t)
+    (amount-magnitude-sub-operand-2 t)
+    (amount-magnitude-operand-requires-2 t)
+    (λ c κs. search needs)
     (λ c. search needs)
     (amount-magnitude-add-amount-magnitude t)
     (amount-magnitude-sub-amount-magnitude t)
@@ -385,10 +411,10 @@ amount-magnitude-part t =
     (amount-magnitude-add-test-small t)
     (amount-magnitude-sub-test-small t)
     (amount-magnitude-test-small-requires t)
-    (amount-magnitude-link-requires t)
+    (amount-magnitude-link-requires-2 t)
     (amount-magnitude-sub-amount-magnitude-2 t)
     (amount-magnitude-amount-magnitude-requires-2 t)
-    (amount-magnitude-link-requires-2 t)
+    (amount-magnitude-link-requires-3 t)
     (amount-magnitude-sub-amount-magnitude-3 t)
     (amount-magnitude-amount-magnitude-requires-3 t)
     (amount-magnitude-greater-of-requires t)
@@ -421,16 +447,10 @@ operand-slot-requires : (t : ℕ) → operand-lts.Need-slot-requires (operand-ca
 operand-slot-requires t c κs = (amounts.amount-room (c .pre .1 .0), omega arith)
 
 operand-distance-requires : (t : ℕ) → operand-lts.Need-distance-requires (operand-calls t) (operand-at t) operand.Post
-operand-distance-requires t c κs =
-    let h = c .before .before .pre .1 .0 in
-    let f : SFits w64 (c .before .slot .result) = search needs in
-    (amounts.amount-room h, record { small = amounts.number-ready h (laws.number-key f (c .before .slot .ensures) (c .match .keys1)) refl })
+operand-distance-requires t c κs = amounts.amount-room (c .before .before .pre .1 .0)
 
 operand-label-requires : (t : ℕ) → operand-lts.Need-label-requires (operand-calls t) (operand-at t) operand.Post
 operand-label-requires t c κs = amounts.amount-room (c .before .before .pre .1 .0)
-
-operand-bound-of-requires : (t : ℕ) → operand-lts.Need-bound-of-requires (operand-calls t) (operand-at t) operand.Post
-operand-bound-of-requires t c κs = c .before .before .before .pre .1 .1
 
 operand-amount-magnitude-requires : (t : ℕ) → operand-lts.Need-amount-magnitude-requires (operand-calls t) (operand-at t) operand.Post
 operand-amount-magnitude-requires t c κs = (omega arith, c .before .before .pre .1)
@@ -460,7 +480,7 @@ operand-part t =
     (operand-slot-requires t)
     (operand-distance-requires t)
     (operand-label-requires t)
-    (operand-bound-of-requires t)
+    (λ c κs. search needs)
     (operand-amount-magnitude-requires t)
     (operand-returns t)
     (operand-returns-2 t)
@@ -470,10 +490,8 @@ abbrev test-small-calls : ℕ → test-small-lts.Claims
 test-small-calls t = (
   test-kind-reads.Asked,
   test-kind-reads.Learnt,
-  two-amounts-below t,
-  two-amounts.Post,
-  both-within-reads.Asked,
-  both-within-reads.Learnt,
+  two-small-below t,
+  two-small.Post,
   two-tests-below t,
   two-tests.Post,
   test-small-below t,
@@ -485,26 +503,26 @@ test-small-test-kind-requires t c κs =
     let h = c .pre .1 .0 in
     amounts.test-room h
 
-test-small-sub-two-amounts : (t : ℕ) → test-small-lts.Need-sub-two-amounts (test-small-calls t) (test-small-at t) test-small.Post
-test-small-sub-two-amounts t c =
+test-small-sub-two-small : (t : ℕ) → test-small-lts.Need-sub-two-small (test-small-calls t) (test-small-at t) test-small.Post
+test-small-sub-two-small t c =
     let h = c .before .before .before .pre .1 .0 in
     omega (arith, amounts.test-some h)
 
-test-small-two-amounts-requires : (t : ℕ) → test-small-lts.Need-two-amounts-requires (test-small-calls t) (test-small-at t) test-small.Post
-test-small-two-amounts-requires t c κs =
+test-small-two-small-requires : (t : ℕ) → test-small-lts.Need-two-small-requires (test-small-calls t) (test-small-at t) test-small.Post
+test-small-two-small-requires t c κs =
     let h = c .before .before .before .pre .1 .0 in
     let m = c .before .before .before .pre .1 .1 in
     let k = c .before .before .test-kind .ensures in
     let q = c .enum-told .given .1 in
     (omega (arith, amounts.test-some h), (amounts.less-ready h k q, m))
 
-test-small-sub-two-amounts-2 : (t : ℕ) → test-small-lts.Need-sub-two-amounts-2 (test-small-calls t) (test-small-at t) test-small.Post
-test-small-sub-two-amounts-2 t c =
+test-small-sub-two-small-2 : (t : ℕ) → test-small-lts.Need-sub-two-small-2 (test-small-calls t) (test-small-at t) test-small.Post
+test-small-sub-two-small-2 t c =
     let h = c .before .before .before .pre .1 .0 in
     omega (arith, amounts.test-some h)
 
-test-small-two-amounts-requires-2 : (t : ℕ) → test-small-lts.Need-two-amounts-requires-2 (test-small-calls t) (test-small-at t) test-small.Post
-test-small-two-amounts-requires-2 t c κs =
+test-small-two-small-requires-2 : (t : ℕ) → test-small-lts.Need-two-small-requires-2 (test-small-calls t) (test-small-at t) test-small.Post
+test-small-two-small-requires-2 t c κs =
     let h = c .before .before .before .pre .1 .0 in
     let m = c .before .before .before .pre .1 .1 in
     let k = c .before .before .test-kind .ensures in
@@ -557,21 +575,19 @@ test-small-test-small-requires t c κs =
 
 test-small-returns : (t : ℕ) → test-small-lts.Need-returns (test-small-calls t) (test-small-at t) test-small.Post
 test-small-returns t c =
-    let h = c .before .before .before .before .before .pre .1 .0 in
-    let b = c .before .before .before .before .before .args .bounds .now in
-    let k = c .before .before .before .before .test-kind .ensures in
-    let q = c .before .before .enum-told .given .1 in
-    let e = c .before .two-amounts .ensures in
-    laws.less-small b h k (e .0) (e .1) (c .both-within .ensures) q
+    let h = c .before .before .before .before .pre .1 .0 in
+    let b = c .before .before .before .before .args .bounds .now in
+    let k = c .before .before .before .test-kind .ensures in
+    let q = c .before .enum-told .given .1 in
+    laws.less-small b h k (c .two-small .ensures) q
 
 test-small-returns-2 : (t : ℕ) → test-small-lts.Need-returns-2 (test-small-calls t) (test-small-at t) test-small.Post
 test-small-returns-2 t c =
-    let h = c .before .before .before .before .before .pre .1 .0 in
-    let b = c .before .before .before .before .before .args .bounds .now in
-    let k = c .before .before .before .before .test-kind .ensures in
-    let q = c .before .before .enum-told2 .given .1 in
-    let e = c .before .two-amounts2 .ensures in
-    laws.equal-small b h k (e .0) (e .1) (c .both-within2 .ensures) q
+    let h = c .before .before .before .before .pre .1 .0 in
+    let b = c .before .before .before .before .args .bounds .now in
+    let k = c .before .before .before .test-kind .ensures in
+    let q = c .before .enum-told2 .given .1 in
+    laws.equal-small b h k (c .two-small2 .ensures) q
 
 test-small-returns-3 : (t : ℕ) → test-small-lts.Need-returns-3 (test-small-calls t) (test-small-at t) test-small.Post
 test-small-returns-3 t c =
@@ -610,13 +626,11 @@ test-small-part t =
     test-small-lts.spec (test-small-calls t) (test-small-at t) test-small.Post
     (test-small-test-kind-requires t)
     (λ c. search needs)
-    (test-small-sub-two-amounts t)
-    (test-small-two-amounts-requires t)
-    (λ c κs. search needs)
+    (test-small-sub-two-small t)
+    (test-small-two-small-requires t)
     (λ c. search needs)
-    (test-small-sub-two-amounts-2 t)
-    (test-small-two-amounts-requires-2 t)
-    (λ c κs. search needs)
+    (test-small-sub-two-small-2 t)
+    (test-small-two-small-requires-2 t)
     (λ c. search needs)
     (test-small-sub-two-tests t)
     (test-small-two-tests-requires t)
@@ -635,42 +649,91 @@ test-small-part t =
     (test-small-returns-5 t)
     (test-small-returns-6 t)
 
-abbrev two-amounts-calls : ℕ → two-amounts-lts.Claims
-two-amounts-calls t = (operand-below t, operand.Post, link-reads.Asked, link-reads.Learnt)
+abbrev two-small-calls : ℕ → two-small-lts.Claims
+two-small-calls t = (operand-below t, operand.Post, link-reads.Asked, link-reads.Learnt, is-within-reads.Asked, is-within-reads.Learnt)
 
-two-amounts-add-operand : (t : ℕ) → two-amounts-lts.Need-add-operand (two-amounts-calls t) (two-amounts-at t) two-amounts.Post
-two-amounts-add-operand t c =
+two-small-add-operand : (t : ℕ) → two-small-lts.Need-add-operand (two-small-calls t) (two-small-at t) two-small.Post
+two-small-add-operand t c =
     let h = c .pre .1 .0 in
     omega (arith, h .room)
 
-two-amounts-operand-requires : (t : ℕ) → two-amounts-lts.Need-operand-requires (two-amounts-calls t) (two-amounts-at t) two-amounts.Post
-two-amounts-operand-requires t c κs =
+two-small-operand-requires : (t : ℕ) → two-small-lts.Need-operand-requires (two-small-calls t) (two-small-at t) two-small.Post
+two-small-operand-requires t c κs =
     let h = c .pre .1 .0 in
     let m = c .pre .1 .1 in
     (omega arith, (h .first, m))
 
-two-amounts-link-requires : (t : ℕ) → two-amounts-lts.Need-link-requires (two-amounts-calls t) (two-amounts-at t) two-amounts.Post
-two-amounts-link-requires t c κs =
+two-small-link-requires : (t : ℕ) → two-small-lts.Need-link-requires (two-small-calls t) (two-small-at t) two-small.Post
+two-small-link-requires t c κs =
     let h = c .before .pre .1 .0 in
     (h .room, omega arith, h .forward)
 
-two-amounts-operand-requires-2 : (t : ℕ) → two-amounts-lts.Need-operand-requires-2 (two-amounts-calls t) (two-amounts-at t) two-amounts.Post
-two-amounts-operand-requires-2 t c κs =
+two-small-operand-requires-2 : (t : ℕ) → two-small-lts.Need-operand-requires-2 (two-small-calls t) (two-small-at t) two-small.Post
+two-small-operand-requires-2 t c κs =
     let h = c .before .before .pre .1 .0 in
     let m = c .before .before .pre .1 .1 in
     (omega arith, rw (c .link .ensures) (h .second, m))
 
-two-amounts-returns : (t : ℕ) → two-amounts-lts.Need-returns (two-amounts-calls t) (two-amounts-at t) two-amounts.Post
-two-amounts-returns t c = rw (← c .before .link .ensures) (c .before .before .operand .ensures, c .operand2 .ensures)
+two-small-returns : (t : ℕ) → two-small-lts.Need-returns (two-small-calls t) (two-small-at t) two-small.Post
+two-small-returns t c =
+    let x = c .before .before .before .before .operand .ensures in
+    let y = rw (c .before .before .before .link .ensures) at (c .before .before .operand2 .ensures) in
+    laws.two-within _ _ _ x y (c .before .is-within .ensures) (c .is-within2 .ensures)
 
-two-amounts-part : {M : Type 1} (t : ℕ) → two-amounts-lts.Closed (two-amounts-calls t) (two-amounts-at t) two-amounts.Post M
-two-amounts-part t =
-    two-amounts-lts.spec (two-amounts-calls t) (two-amounts-at t) two-amounts.Post
-    (two-amounts-add-operand t)
-    (two-amounts-operand-requires t)
-    (two-amounts-link-requires t)
-    (two-amounts-operand-requires-2 t)
-    (two-amounts-returns t)
+two-small-part : {M : Type 1} (t : ℕ) → two-small-lts.Closed (two-small-calls t) (two-small-at t) two-small.Post M
+two-small-part t =
+    two-small-lts.spec (two-small-calls t) (two-small-at t) two-small.Post
+    (two-small-add-operand t)
+    (two-small-operand-requires t)
+    (two-small-link-requires t)
+    (two-small-operand-requires-2 t)
+    (λ c κs. search needs)
+    (λ c κs. search needs)
+    (two-small-returns t)
+
+abbrev two-summed-calls : ℕ → two-summed-lts.Claims
+two-summed-calls t = (operand-below t, operand.Post, link-reads.Asked, link-reads.Learnt, sum-of-reads.Asked, sum-of-reads.Learnt)
+
+two-summed-add-operand : (t : ℕ) → two-summed-lts.Need-add-operand (two-summed-calls t) (two-summed-at t) two-summed.Post
+two-summed-add-operand t c =
+    let h = c .pre .1 .0 in
+    omega (arith, h .room)
+
+two-summed-operand-requires : (t : ℕ) → two-summed-lts.Need-operand-requires (two-summed-calls t) (two-summed-at t) two-summed.Post
+two-summed-operand-requires t c κs =
+    let h = c .pre .1 .0 in
+    let m = c .pre .1 .1 in
+    (omega arith, (h .first, m))
+
+two-summed-link-requires : (t : ℕ) → two-summed-lts.Need-link-requires (two-summed-calls t) (two-summed-at t) two-summed.Post
+two-summed-link-requires t c κs =
+    let h = c .before .pre .1 .0 in
+    (h .room, omega arith, h .forward)
+
+two-summed-operand-requires-2 : (t : ℕ) → two-summed-lts.Need-operand-requires-2 (two-summed-calls t) (two-summed-at t) two-summed.Post
+two-summed-operand-requires-2 t c κs =
+    let h = c .before .before .pre .1 .0 in
+    let m = c .before .before .pre .1 .1 in
+    (omega arith, rw (c .link .ensures) (h .second, m))
+
+two-summed-sum-of-requires : (t : ℕ) → two-summed-lts.Need-sum-of-requires (two-summed-calls t) (two-summed-at t) two-summed.Post
+two-summed-sum-of-requires t c κs = (laws.amount-kept _ _ (c .before .before .operand .ensures), laws.amount-kept _ _ (c .operand2 .ensures))
+
+two-summed-returns : (t : ℕ) → two-summed-lts.Need-returns (two-summed-calls t) (two-summed-at t) two-summed.Post
+two-summed-returns t c =
+    let x = c .before .before .before .operand .ensures in
+    let y = rw (c .before .before .link .ensures) at (c .before .operand2 .ensures) in
+    c .sum-of .ensures ∙ ap₂ (joined _+_) x y
+
+two-summed-part : {M : Type 1} (t : ℕ) → two-summed-lts.Closed (two-summed-calls t) (two-summed-at t) two-summed.Post M
+two-summed-part t =
+    two-summed-lts.spec (two-summed-calls t) (two-summed-at t) two-summed.Post
+    (two-summed-add-operand t)
+    (two-summed-operand-requires t)
+    (two-summed-link-requires t)
+    (two-summed-operand-requires-2 t)
+    (two-summed-sum-of-requires t)
+    (two-summed-returns t)
 
 abbrev two-tests-calls : ℕ → two-tests-lts.Claims
 two-tests-calls t = (test-small-below t, test-small.Post, link-reads.Asked, link-reads.Learnt)
@@ -709,5 +772,5 @@ two-tests-part t =
     (two-tests-test-small-requires-2 t)
     (two-tests-returns t)
 
-pub +amount-magnitude+operand+test-small+two-amounts+two-tests-spec : {M : Type 1} → statement M
-+amount-magnitude+operand+test-small+two-amounts+two-tests-spec = close μ-amount-magnitude μ-operand μ-test-small μ-two-amounts μ-two-tests amount-magnitude-part operand-part test-small-part two-amounts-part two-tests-part
+pub +amount-magnitude+operand+test-small+two-small+two-summed+two-tests-spec : {M : Type 1} → statement M
++amount-magnitude+operand+test-small+two-small+two-summed+two-tests-spec = close μ-amount-magnitude μ-operand μ-test-small μ-two-small μ-two-summed μ-two-tests amount-magnitude-part operand-part test-small-part two-small-part two-summed-part two-tests-part
