@@ -9,7 +9,7 @@ use Rattle.language.specs.Rules.Tests.{amountSmall, testSmall}
 use Rattle.language.specs.Text.Number.{between}
 use Rattle.language.specs.Text.Trees.{Amount, choose, difference, index, number, product, quotient, sum}
 use Rattle.measures.proofs.Amounts.{amount-is, number-ready, test-is}
-use Rattle.measures.proofs.Joins.{again, joined-measured, kept-measured, third, within-measured}
+use Rattle.measures.proofs.Joins.{again, joined-measured, kept-measured, third, where-measured, within-measured}
 use Rattle.measures.specs.Magnitudes.{InBounds, beyond, boundIn, joined, measured, measuredAmount}
 use Rattle.measures.specs.Ready.{AmountReady, TestReady}
 use Rattle.nodes.proofs.Signed.{key}
@@ -25,7 +25,7 @@ use lib.Dec.{T, leb}
 use lib.IntN.{natAbs, negsuc, pos, ℤ}
 use lib.ListN.{List·getD-eq-default, getD, length}
 use lib.Signed.{leZ, leZ-yes}
-use mathlib.Core.Bool.{Bool, _&&_, false, true}
+use mathlib.Core.Bool.{Bool, _&&_, cond, false, true}
 use mathlib.Core.List.{List, [], _∷_}
 use mathlib.Core.Path.{_∙_, _≡_, ap₂, refl}
 use mir.Syntax.{w64}
@@ -130,15 +130,11 @@ module _ (bounds : List ℤ) where
     quotient-magnitude t er =
         rw (amount-is h e t, again (amountSmall bound (part (at + 1))) (magnitudeOfAmount bound (part (at + 1))) (amount-limit bound (part (at + 1)))) er
 
-    module _ (t : l ≡ letter.Choose) {c : Bool} (ec : c ≡ testSmall bound (testAt offsetOf (left - 1) nodes (at + 1))) where
-      pub choose-magnitude : c ≡ true → {p q : ℕ} → p ≡ linkAt nodes at 3 → q ≡ linkAt nodes at 4 → {x y r : ℕ}
-          → x ≡ measuredAmount bound (part p) → y ≡ measuredAmount bound (part q) → r ≡ joined max x y → r ≡ whole
-      unfolding amountSmall magnitudeOfAmount
-      choose-magnitude u {p} {q} ep eq ex ey er = rw (amount-is h e t, ← ep, ← eq, ← ec, u) (join bound max (part p) (part q) ex ey er)
-
-      pub choose-beyond : c ≡ false → beyond ≡ whole
-      unfolding amountSmall
-      choose-beyond u = rw (amount-is h e t, ← ec, u) refl
+    pub choose-magnitude : l ≡ letter.Choose → {c : Bool} → c ≡ testSmall bound (testAt offsetOf (left - 1) nodes (at + 1)) → {p q : ℕ} → p ≡ linkAt nodes at 3 → q ≡ linkAt nodes at 4
+        → {x y r : ℕ} → x ≡ measuredAmount bound (part p) → y ≡ measuredAmount bound (part q) → r ≡ cond c (joined max x y) beyond → r ≡ whole
+    unfolding amountSmall magnitudeOfAmount
+    choose-magnitude t ec {p} {q} ep eq ex ey er =
+        rw (amount-is h e t, ← ep, ← eq) (where-measured (testSmall bound (testAt offsetOf (left - 1) nodes (at + 1))) _ _ ec (join bound max (part p) (part q) ex ey refl) er)
 
   -- ---- tests
 

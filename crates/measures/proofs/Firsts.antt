@@ -1,4 +1,4 @@
--- What each letter shows of the first month in which a plan may pay.
+-- The first month in which a plan may pay: it can be added to, and what the parts of the walk answer of it.
 use Prim.Native.Nat.{_+_, _-_, _≤_, ℕ}
 use Rattle.integers.specs.declared.Month.{Month}
 use Rattle.language.specs.Limits.{maxNodes}
@@ -63,61 +63,17 @@ first-small {left} {at} {nodes} h ea =
 
 -- ---- what the parts of the walk answer
 
-abbrev Sooner : FirstPay → FirstPay → FirstPay → Type 0
+abbrev pub Sooner : FirstPay → FirstPay → FirstPay → Type 0
 Sooner a b r = (p q : Bool) (x y : First) → a ≡ firstPay p x → b ≡ firstPay q y → r ≡ firstPay (p && q) (soonerOf x y)
 
-abbrev Delayed : ℤ → FirstPay → FirstPay → Type 0
+abbrev pub Delayed : ℤ → FirstPay → FirstPay → Type 0
 Delayed d a r = (n : ℕ) (p : Bool) (x : First) → d ≡ pos n → a ≡ firstPay p x → r ≡ firstPay p (afterDelay n x)
 
-abbrev InTime : LatestRead → FirstPay → FirstPay → Type 0
+abbrev pub InTime : LatestRead → FirstPay → FirstPay → Type 0
 InTime k a r = (y : Latest) (p : Bool) (x : First) → k ≡ latestRead y → a ≡ firstPay p x → r ≡ firstPay (notAfter y x && p) x
 
-abbrev TriedInTime : LatestRead → FirstPay → FirstPay → Type 0
+abbrev pub TriedInTime : LatestRead → FirstPay → FirstPay → Type 0
 TriedInTime k a r = (y : Latest) (p : Bool) (x : First) → k ≡ latestRead y → a ≡ firstPay p x → r ≡ firstPay (notAfter y (from 0) && p) x
-
--- ---- the letters
-
-module _ {left at : ℕ} {nodes : List ℤ} (h : PlanReady left nodes at) {l : PlanLetter} (e : l ≡ planLetter (slotAt nodes at 0)) where
-  abbrev whole : FirstPay
-  whole = firstPayOf (planAt natOf left nodes at)
-
-  abbrev part : ℕ → Plan ℕ
-  part p = planAt natOf (left - 1) nodes p
-
-  pub nothing-first : l ≡ plan.Nothing → Never ≡ whole
-  unfolding firstOf knownInTime
-  nothing-first t = rw (plan-is h e t)
-
-  pub no-plan-first : l ≡ plan.NoPlan → Never ≡ whole
-  unfolding firstOf knownInTime
-  no-plan-first t = rw (plan-is h e t)
-
-  pub transfer-first : l ≡ plan.Transfer → From (record { 0 = pos 0 }) ≡ whole
-  unfolding firstOf knownInTime
-  transfer-first t = rw (plan-is h e t)
-
-  pub scale-first : l ≡ plan.Scale → {p : ℕ} → p ≡ linkAt nodes at 3 → {k : LatestRead} {a r : FirstPay}
-      → k ≡ latestRead (latestOf (amountAt offsetOf maxNodes nodes (at + 1))) → a ≡ firstPayOf (part p) → InTime k a r → r ≡ whole
-  unfolding firstOf knownInTime
-  scale-first t {p} ep ek ea er = rw (plan-is h e t, ← ep) (er (latestOf (amountAt offsetOf maxNodes nodes (at + 1))) (knownInTime (part p)) (firstOf (part p)) ek ea)
-
-  pub later-first : l ≡ plan.Later → {d : ℤ} {a r : FirstPay} → d ≡ pos (natOf (slotAt nodes at 1)) → a ≡ firstPayOf (part (at + 1)) → Delayed d a r → r ≡ whole
-  unfolding firstOf knownInTime
-  later-first t ed ea er = rw (plan-is h e t) (er (natOf (slotAt nodes at 1)) (knownInTime (part (at + 1))) (firstOf (part (at + 1))) ed ea)
-
-  pub both-first : l ≡ plan.Both → {p : ℕ} → p ≡ linkAt nodes at 3 → {a b r : FirstPay}
-      → a ≡ firstPayOf (part (at + 1)) → b ≡ firstPayOf (part p) → Sooner a b r → r ≡ whole
-  unfolding firstOf knownInTime
-  both-first t {p} ep ea eb er =
-      rw (plan-is h e t, ← ep) (er (knownInTime (part (at + 1))) (knownInTime (part p)) (firstOf (part (at + 1))) (firstOf (part p)) ea eb)
-
-  pub within-first : l ≡ plan.Within → {p q : ℕ} → p ≡ linkAt nodes at 3 → q ≡ linkAt nodes at 4 → {k : LatestRead} {a b s r : FirstPay}
-      → k ≡ latestRead (latestOfTest (testAt offsetOf maxNodes nodes (at + 1))) → a ≡ firstPayOf (part p) → b ≡ firstPayOf (part q) → Sooner a b s → TriedInTime k s r → r ≡ whole
-  unfolding firstOf knownInTime
-  within-first t {p} {q} ep eq ek ea eb es er =
-      rw (plan-is h e t, ← ep, ← eq)
-      (er (latestOfTest (testAt offsetOf maxNodes nodes (at + 1))) (knownInTime (part p) && knownInTime (part q)) (soonerOf (firstOf (part p)) (firstOf (part q))) ek
-      (es (knownInTime (part p)) (knownInTime (part q)) (firstOf (part p)) (firstOf (part q)) ea eb))
 
 -- ---- the answer as a test
 

@@ -5,7 +5,7 @@ use Rattle.language.specs.Limits.{maxAmount}
 use Rattle.measures.specs.Magnitudes.{beyond, joined, measured}
 use borrow.Author.Tests.{le-leb, leb-false, leb-true, lt-leb}
 use lib.Dec.{leb}
-use mathlib.Core.Bool.{Bool, _&&_, false, true}
+use mathlib.Core.Bool.{Bool, _&&_, cond, false, true}
 use mathlib.Core.Path.{_∙_, _≡_, ap₂, refl, sym}
 use native.Mathlib.Nat.{div-lt-iff-lt-mul, le-div-iff-mul-le}
 use native.Mathlib.Omega.{arith}
@@ -60,17 +60,6 @@ module _ (a b : ℕ) where
       by true e = let h = leb-true (max a b) maxAmount e in within-joined max a b (omega (arith, h)) (omega (arith, h)) h
       by false e = let h = leb-false (max a b) maxAmount e in let z : max a b ≡ beyond = omega (arith, h, i, j) in z ∙ outcome-beyond max a b h
 
--- once is as far from zero
-pub once-joined : (a : ℕ) → a ≤ beyond → a ≡ joined _*_ a 1
-once-joined a i = by (leb a maxAmount) refl
-  where
-    by : (t : Bool) → leb a maxAmount ≡ t → a ≡ joined _*_ a 1
-    by true e =
-        let z : a * 1 ≡ a = omega arith in
-        let h = leb-true a maxAmount e in
-        sym z ∙ within-joined _*_ a 1 h (omega arith) (omega (arith, h, z))
-    by false e = let h = leb-false a maxAmount e in let z : a ≡ beyond = omega (arith, h, i) in z ∙ first-beyond _*_ a 1 h
-
 -- ---- as the definitions say it
 
 module _ (op : ℕ → ℕ → ℕ) (p q : Bool) (m n : ℕ) (hm : p ≡ true → m ≤ maxAmount) (hn : q ≡ true → n ≤ maxAmount) where
@@ -82,6 +71,11 @@ module _ (op : ℕ → ℕ → ℕ) (p q : Bool) (m n : ℕ) (hm : p ≡ true �
       by true true i j = rw (le-leb m maxAmount (i refl), le-leb n maxAmount (j refl)) refl
       by true false i j = rw (le-leb m maxAmount (i refl)) refl
       by false q i j = refl
+
+-- where a test is small
+pub where-measured : (s v : Bool) (n : ℕ) {c : Bool} {j r : ℕ} → c ≡ s → j ≡ measured v n → r ≡ cond c j beyond → r ≡ measured (s && v) n
+where-measured true v n ec ej er = er ∙ rw ec ej
+where-measured false v n ec ej er = er ∙ rw ec refl
 
 module _ (p : Bool) (n : ℕ) (h : p ≡ true → n ≤ maxAmount) where
   pub kept-measured : {a : ℕ} → a ≡ measured p n → a ≤ beyond

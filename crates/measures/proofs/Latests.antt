@@ -156,10 +156,6 @@ module _ {nodes : List ℤ} {from to : ℕ} where
             ∙ sym (later-assoc (p .late) (rowLatest nodes at) (rowsLatest nodes (to - (at + 1)) (at + 1)));
       }
 
-  -- a row that reads nothing
-  pub passing-other : {at : ℕ} {a : LatestRead} → Passing nodes from to at a → at < to → NoMonth ≡ latestRead (rowLatest nodes at) → Passing nodes from to (at + 1) a
-  passing-other p h eb = passing-row p h eb (λ x y ex ey. ex ∙ ap latestRead (sym (ap (laterOf x) (is-none y ey) ∙ later-second-none x)))
-
   pub passing-all : {at : ℕ} {a : LatestRead} → Passing nodes from to at a → to ≤ at → a ≡ latestRead (rowsLatest nodes (to - from) from)
   unfolding rowsOf
   passing-all {at} p h =

@@ -1,4 +1,4 @@
--- What each letter shows of a plan's length, and that no length leaves the months that code adds.
+-- The greater of two lengths, and that no length leaves the months that code adds.
 use Prim.Native.Nat.{_*_, _+_, _-_, _≤_, max, suc, zero, ℕ}
 use Rattle.integers.proofs.Locals.{rd}
 use Rattle.integers.specs.Bounded.{Small}
@@ -69,42 +69,3 @@ length-bound {left} {at} {nodes} h = omega (arith, length-at left nodes at (h .f
 -- a month of this size can be added
 pub few : {z : ℤ} {n : ℕ} → z ≡ pos n → n ≤ 1_000_000 → Small z
 few e b = rw e (record { small = omega arith })
-
--- ---- the letters
-
-module _ {left at : ℕ} {nodes : List ℤ} (h : PlanReady left nodes at) {l : PlanLetter} (e : l ≡ planLetter (slotAt nodes at 0)) where
-  abbrev whole : ℤ
-  whole = pos (lengthOf (planAt natOf left nodes at))
-
-  abbrev part : ℕ → ℤ
-  part p = pos (lengthOf (planAt natOf (left - 1) nodes p))
-
-  pub nothing-length : l ≡ Nothing → pos 0 ≡ whole
-  unfolding lengthOf
-  nothing-length t = rw (plan-is h e t)
-
-  pub transfer-length : l ≡ Transfer → pos 0 ≡ whole
-  unfolding lengthOf
-  transfer-length t = rw (plan-is h e t)
-
-  pub no-plan-length : l ≡ NoPlan → pos 0 ≡ whole
-  unfolding lengthOf
-  no-plan-length t = rw (plan-is h e t)
-
-  pub scale-length : l ≡ Scale → {p : ℕ} → p ≡ linkAt nodes at 3 → {x : ℤ} → x ≡ part p → x ≡ whole
-  unfolding lengthOf
-  scale-length t ep ex = rw (plan-is h e t, ← ep) ex
-
-  pub later-length : l ≡ Later → {d x r : ℤ} → d ≡ pos (natOf (slotAt nodes at 1)) → x ≡ part (at + 1) → r ≡ d +ℤ x → r ≡ whole
-  unfolding lengthOf
-  later-length t ed ex er = rw (plan-is h e t) (er ∙ ap₂ _+ℤ_ ed ex)
-
-  pub both-length : l ≡ Both → {p : ℕ} → p ≡ linkAt nodes at 3 → {r : ℤ}
-      → r ≡ pos (max (lengthOf (planAt natOf (left - 1) nodes (at + 1))) (lengthOf (planAt natOf (left - 1) nodes p))) → r ≡ whole
-  unfolding lengthOf
-  both-length t ep er = rw (plan-is h e t, ← ep) er
-
-  pub within-length : l ≡ Within → {p q : ℕ} → p ≡ linkAt nodes at 3 → q ≡ linkAt nodes at 4 → {d x r : ℤ} → d ≡ pos (natOf (slotAt nodes at 1))
-      → x ≡ pos (max (lengthOf (planAt natOf (left - 1) nodes p)) (lengthOf (planAt natOf (left - 1) nodes q))) → r ≡ d +ℤ x → r ≡ whole
-  unfolding lengthOf
-  within-length t ep eq ed ex er = rw (plan-is h e t, ← ep, ← eq) (er ∙ ap₂ _+ℤ_ ed ex)

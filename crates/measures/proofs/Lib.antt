@@ -10,6 +10,7 @@ pub mod Joins
 pub mod Latests
 pub mod Lengths
 pub mod PlanMagnitudes
+pub mod PlanMeasures
 pub mod PlanReadings
 pub mod PlanRows
 pub mod Plans

@@ -128,28 +128,25 @@ module _ {left : ℕ} {first last : Month} {span : Reach} (m : InReach left firs
       → (from < to) × (rowsRead (windowOf first last span) nodes (to - from) from ≡ testReads (tableOf span) a z (testAt offsetOf maxNodes nodes from))
   test-reads nodes from to b = let r = test-rows reads-join nodes maxNodes from to b in (r .some, r .gives)
 
--- ---- the loop: every row that was passed can be read
+-- ---- the loop: whether every row that was passed can be read
 
-pub record Passed (w : Window) (nodes : List ℤ) (from to at : ℕ) : Type 0 where
-  pub low : from ≤ at
-  pub high : at ≤ to
-  pub left : rowsRead w nodes (to - from) from ≡ rowsRead w nodes (to - at) at
+pub record Passed (w : Window) (nodes : List ℤ) (from to at : ℕ) (reads : Bool) : Type 0 where
+  pub left : rowsRead w nodes (to - from) from ≡ (reads && rowsRead w nodes (to - at) at)
 
-module _ {w : Window} {nodes : List ℤ} {from to at : ℕ} (p : Passed w nodes from to at) where
-  next : at < to → rowsRead w nodes (to - from) from ≡ (rowReads w nodes at && rowsRead w nodes (to - (at + 1)) (at + 1))
+module _ {w : Window} {nodes : List ℤ} {from to at : ℕ} {reads : Bool} (p : Passed w nodes from to at reads) where
+  pub passed-row : at < to → {b : Bool} → b ≡ rowReads w nodes at → Passed w nodes from to (at + 1) (reads && b)
   unfolding rowsOf
-  next h =
+  passed-row h {b} eb =
       let n : to - at ≡ suc (to - (at + 1)) = omega arith in
-      p .left ∙ ap (λ k. rowsRead w nodes k at) n
+      record {
+        left =
+            p .left ∙ ap (λ k. reads && rowsRead w nodes k at) n
+            ∙ ap (λ c. reads && (c && rowsRead w nodes (to - (at + 1)) (at + 1))) (sym eb)
+            ∙ sym (and-assoc reads b (rowsRead w nodes (to - (at + 1)) (at + 1)));
+      }
 
-  pub passed-row : at < to → rowReads w nodes at ≡ true → Passed w nodes from to (at + 1)
-  passed-row h e = record { low = omega (arith, p .low); high = omega arith; left = next h ∙ ap (λ b. b && rowsRead w nodes (to - (at + 1)) (at + 1)) e }
-
-  pub passed-not : at < to → rowReads w nodes at ≡ false → false ≡ rowsRead w nodes (to - from) from
-  passed-not h e = sym (next h ∙ ap (λ b. b && rowsRead w nodes (to - (at + 1)) (at + 1)) e)
-
-  pub passed-all : to ≤ at → true ≡ rowsRead w nodes (to - from) from
+  pub passed-all : to ≤ at → reads ≡ rowsRead w nodes (to - from) from
   unfolding rowsOf
   passed-all h =
       let n : to - at ≡ zero = omega arith in
-      sym (p .left ∙ ap (λ k. rowsRead w nodes k at) n)
+      sym (p .left ∙ ap (λ k. reads && rowsRead w nodes k at) n ∙ and-true reads)

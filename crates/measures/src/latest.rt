@@ -1,8 +1,8 @@
-// The latest month that rows read, counted from the node above them.
+// The latest month that a row reads, counted from the node above it, and the later of two.
 ghost use mathlib.Core.Path.{_≡_};
-ghost use Prim.Native.Nat.{_-_, _≤_};
+ghost use Prim.Native.Nat.{_<_};
 ghost use Rattle.language.specs.Rules.Measures.{Latest, laterOf};
-ghost use Rattle.measures.specs.Rows.{rowsLatest};
+ghost use Rattle.measures.specs.Rows.{rowLatest};
 ghost use Rattle.measures.specs.Timing.{latestRead};
 use crate::node;
 use integers::Month;
@@ -12,7 +12,7 @@ pub enum LatestRead {
     AtMost(Month),
 }
 
-fn later_of(a: LatestRead, b: LatestRead) -> LatestRead
+pub fn later_of(a: LatestRead, b: LatestRead) -> LatestRead
     ensures { λ r. ⌜ ((x y : Latest) → a ≡ latestRead x → b ≡ latestRead y → r ≡ latestRead (laterOf x y)) ⌝ }
 {
     let LatestRead::AtMost(i) = a else {
@@ -27,17 +27,12 @@ fn later_of(a: LatestRead, b: LatestRead) -> LatestRead
     a
 }
 
-pub fn rows_latest(nodes: &[i64; 2560], from: usize, to: usize) -> LatestRead
-    requires { ⌜ (from ≤ to) × (to ≤ 512) ⌝ }
-    ensures { λ r. ⌜ r ≡ latestRead (rowsLatest (now (nodes .entry)) (to - from) from) ⌝ }
+pub fn row_latest(nodes: &[i64; 2560], at: usize) -> LatestRead
+    requires { ⌜ at < 512 ⌝ }
+    ensures { λ r. ⌜ r ≡ latestRead (rowLatest (now (nodes .entry)) at) ⌝ }
 {
-    let mut latest = LatestRead::NoMonth;
-    let mut at = from;
-    while at < to {
-        if node::is_index(nodes, at) {
-            latest = later_of(latest, LatestRead::AtMost(node::offset(nodes, at)));
-        }
-        at += 1;
+    if node::is_index(nodes, at) {
+        return LatestRead::AtMost(node::offset(nodes, at));
     }
-    latest
+    LatestRead::NoMonth
 }

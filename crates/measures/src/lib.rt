@@ -5,4 +5,6 @@ pub mod length;
 pub mod limit;
 pub mod magnitude;
 pub mod node;
+pub mod plan;
 pub mod reads;
+pub mod rows;

@@ -1,5 +1,6 @@
 // A magnitude as one number: itself where it is within the limit, else one more than the limit. Two of them joined.
 ghost use mathlib.Core.Path.{_≡_};
+ghost use mathlib.Core.Bool.{cond};
 ghost use Prim.Native.Nat.{_+_, _*_, _≤_, max};
 ghost use lib.Dec.{leb};
 ghost use Rattle.language.specs.Limits.{maxAmount};
@@ -8,7 +9,7 @@ ghost use Rattle.measures.specs.Magnitudes.{beyond, joined};
 const LIMIT: u64 = 9_000_000_000_000;
 
 // What stands for every magnitude that is beyond the limit.
-pub const BEYOND: u64 = 9_000_000_000_001;
+const BEYOND: u64 = 9_000_000_000_001;
 
 pub fn is_within(a: u64) -> bool
     ensures { λ r. ⌜ r ≡ leb a maxAmount ⌝ }
@@ -46,7 +47,7 @@ pub fn product_of(a: u64, b: u64) -> u64
     a * b
 }
 
-pub fn greater_of(a: u64, b: u64) -> u64
+fn greater_of(a: u64, b: u64) -> u64
     requires { ⌜ (a ≤ beyond) × (b ≤ beyond) ⌝ }
     ensures { λ r. ⌜ r ≡ joined max a b ⌝ }
 {
@@ -54,4 +55,15 @@ pub fn greater_of(a: u64, b: u64) -> u64
         return b;
     }
     a
+}
+
+// The greater of two where a test is small, else beyond.
+pub fn greater_where(small: bool, a: u64, b: u64) -> u64
+    requires { ⌜ (a ≤ beyond) × (b ≤ beyond) ⌝ }
+    ensures { λ r. ⌜ r ≡ cond small (joined max a b) beyond ⌝ }
+{
+    if small {
+        return greater_of(a, b);
+    }
+    BEYOND
 }

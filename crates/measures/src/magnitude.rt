@@ -1,17 +1,16 @@
-// How far from zero an amount, or what a plan pays, may be: the magnitude, where it is within the limit at every node.
+// How far from zero an amount may be: the magnitude, where it is within the limit at every node.
 ghost use mathlib.Core.Path.{_≡_};
 ghost use mathlib.Core.Bool.{_&&_};
 ghost use Prim.Native.Nat.{_+_, _<_};
 ghost use lib.IntN.{natAbs};
 ghost use Rattle.language.specs.Rules.Tests.{amountSmall, testSmall};
-ghost use Rattle.nodes.specs.Found.{amountAt, offsetOf, planAt, testAt};
-ghost use Rattle.nodes.specs.Table.{linkAt, natOf, slotAt};
-ghost use Rattle.measures.specs.Magnitudes.{InBounds, boundIn, joined, measuredAmount, measuredPlan};
-ghost use Rattle.measures.specs.Ready.{AmountReady, AmountsReady, PlanReady, TestReady, TestsReady};
+ghost use Rattle.nodes.specs.Found.{amountAt, offsetOf, testAt};
+ghost use Rattle.nodes.specs.Table.{linkAt, slotAt};
+ghost use Rattle.measures.specs.Magnitudes.{InBounds, boundIn, joined, measuredAmount};
+ghost use Rattle.measures.specs.Ready.{AmountReady, AmountsReady, TestReady, TestsReady};
 use crate::limit;
 use crate::node;
 use nodes::AmountLetter;
-use nodes::PlanLetter;
 use nodes::TestLetter;
 
 // ---- a node's own
@@ -56,10 +55,7 @@ pub fn amount_magnitude(nodes: &[i64; 2560], at: usize, left: usize, bounds: &[i
             let t = test_small(nodes, at + 1, left - 1, bounds);
             let x = amount_magnitude(nodes, nodes::link(nodes, at, 3), left - 1, bounds);
             let y = amount_magnitude(nodes, nodes::link(nodes, at, 4), left - 1, bounds);
-            if t {
-                return limit::greater_of(x, y);
-            }
-            limit::BEYOND
+            limit::greater_where(t, x, y)
         }
         AmountLetter::NoAmount => 0,
     }
@@ -82,7 +78,7 @@ pub fn test_small(nodes: &[i64; 2560], at: usize, left: usize, bounds: &[i64]) -
 }
 
 // The magnitude of an amount: a number or an index without a call.
-fn operand(nodes: &[i64; 2560], at: usize, left: usize, bounds: &[i64]) -> u64
+pub fn operand(nodes: &[i64; 2560], at: usize, left: usize, bounds: &[i64]) -> u64
     requires { ⌜ AmountReady left (now nodes) at × InBounds (now bounds) ⌝ }
     ensures { λ r. ⌜ r ≡ measuredAmount (boundIn (now (bounds .entry))) (amountAt offsetOf left (now (nodes .entry)) at) ⌝ }
 {
@@ -128,42 +124,4 @@ fn two_tests(nodes: &[i64; 2560], at: usize, left: usize, bounds: &[i64]) -> boo
     let x = test_small(nodes, at + 1, left, bounds);
     let y = test_small(nodes, nodes::link(nodes, at, 3), left, bounds);
     x & y
-}
-
-// ---- plans
-
-pub fn plan_magnitude(nodes: &[i64; 2560], at: usize, left: usize, bounds: &[i64]) -> u64
-    requires { ⌜ PlanReady left (now nodes) at × InBounds (now bounds) ⌝ }
-    ensures { λ r. ⌜ r ≡ measuredPlan (boundIn (now (bounds .entry))) (planAt natOf left (now (nodes .entry)) at) ⌝ }
-{
-    let letter = node::plan_kind(nodes, at);
-    match letter {
-        PlanLetter::Nothing => 0,
-        PlanLetter::Transfer => 1,
-        PlanLetter::Scale => {
-            let x = operand(nodes, at + 1, 512, bounds);
-            let next = nodes::link(nodes, at, 3);
-            if node::is_transfer(nodes, next) {
-                return x;
-            }
-            let y = plan_magnitude(nodes, next, left - 1, bounds);
-            limit::product_of(x, y)
-        }
-        PlanLetter::Later => plan_magnitude(nodes, at + 1, left - 1, bounds),
-        PlanLetter::Both => {
-            let x = plan_magnitude(nodes, at + 1, left - 1, bounds);
-            let y = plan_magnitude(nodes, nodes::link(nodes, at, 3), left - 1, bounds);
-            limit::sum_of(x, y)
-        }
-        PlanLetter::Within => {
-            let t = test_small(nodes, at + 1, 512, bounds);
-            let x = plan_magnitude(nodes, nodes::link(nodes, at, 3), left - 1, bounds);
-            let y = plan_magnitude(nodes, nodes::link(nodes, at, 4), left - 1, bounds);
-            if t {
-                return limit::greater_of(x, y);
-            }
-            limit::BEYOND
-        }
-        PlanLetter::NoPlan => 0,
-    }
 }

@@ -26,16 +26,17 @@ pub fn measure(nodes: &[i64; 2560], today: Month, reach: Reach, bounds: &[i64]) 
     requires { ⌜ PlanReady 32 (now nodes) 0 × InTable (today .0) (reach .h) (reach .f) (reach .labels) (now bounds) ⌝ }
     ensures { λ r. ⌜ (checkingAnswer r ≡ measuredBy (reach .h) (reach .f) (now (bounds .entry)) (natOf (today .0)) (planAt natOf 32 (now (nodes .entry)) 0)) × Natural r ⌝ }
 {
-    let length = measures::length::plan_length(nodes, 0, 32);
+    let m = measures::plan::measure_plan(nodes, 0, 32, today, today, reach, bounds);
+    let length = m.length;
     let last = integers::later(today, length);
     if reach.f < last.0 {
         return Checking::Refused(Refusal::Length);
     }
-    if measures::reads::plan_reads(nodes, 0, 32, today, today, reach) {
-        if measures::first::known_in_time(nodes, 0, 32) {
-            let m = measures::magnitude::plan_magnitude(nodes, 0, 32, bounds);
-            if measures::limit::is_within(m) {
-                Checking::Accepted(length, Pence(m as i64))
+    if m.reads {
+        let first = m.first;
+        if measures::first::is_known(first) {
+            if measures::limit::is_within(m.magnitude) {
+                Checking::Accepted(length, Pence(m.magnitude as i64))
             } else {
                 Checking::Refused(Refusal::Magnitude)
             }

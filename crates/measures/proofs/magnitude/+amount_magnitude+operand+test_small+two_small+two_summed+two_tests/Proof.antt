@@ -1,7 +1,7 @@
 use Prim.Native.Nat.{_*_, _+_, _<_, ℕ}
 use Rattle.measures.proofs.AmountMagnitudes as laws
 use Rattle.measures.proofs.Amounts as amounts
-use Rattle.measures.proofs.limit.greater_of.Reads as greater-of-reads
+use Rattle.measures.proofs.limit.greater_where.Reads as greater-where-reads
 use Rattle.measures.proofs.limit.is_within.Reads as is-within-reads
 use Rattle.measures.proofs.limit.product_of.Reads as product-of-reads
 use Rattle.measures.proofs.limit.sum_of.Reads as sum-of-reads
@@ -135,8 +135,8 @@ amount-magnitude-calls t = (
   amount-magnitude.Post,
   test-small-below t,
   test-small.Post,
-  greater-of-reads.Asked,
-  greater-of-reads.Learnt,
+  greater-where-reads.Asked,
+  greater-where-reads.Learnt,
 )
 
 amount-magnitude-amount-kind-requires : (t : ℕ) → amount-magnitude-lts.Need-amount-kind-requires (amount-magnitude-calls t) (amount-magnitude-at t) amount-magnitude.Post
@@ -296,34 +296,21 @@ amount-magnitude-amount-magnitude-requires-3 t c κs =
     let q = c .before .before .before .before .enum-told7 .given .1 in
     (omega (arith, amounts.amount-some h), rw (c .link3 .ensures) (amounts.choose-ready h k q .2 .1, m))
 
-amount-magnitude-greater-of-requires : (t : ℕ) → amount-magnitude-lts.Need-greater-of-requires (amount-magnitude-calls t) (amount-magnitude-at t) amount-magnitude.Post
-amount-magnitude-greater-of-requires t c κs =
-    let amount-magnitude2-is = c .before .before .before .amount-magnitude2 .ensures in
-    (laws.amount-kept _ _ amount-magnitude2-is, laws.amount-kept _ _ (c .before .amount-magnitude3 .ensures))
+amount-magnitude-greater-where-requires : (t : ℕ) → amount-magnitude-lts.Need-greater-where-requires (amount-magnitude-calls t) (amount-magnitude-at t) amount-magnitude.Post
+amount-magnitude-greater-where-requires t c κs =
+    let amount-magnitude2-is = c .before .before .amount-magnitude2 .ensures in
+    (laws.amount-kept _ _ amount-magnitude2-is, laws.amount-kept _ _ (c .amount-magnitude3 .ensures))
 
 amount-magnitude-returns : (t : ℕ) → amount-magnitude-lts.Need-returns (amount-magnitude-calls t) (amount-magnitude-at t) amount-magnitude.Post
 amount-magnitude-returns t c =
-    let h = c .before .before .before .before .before .before .before .before .before .before .pre .1 .0 in
-    let b = c .before .before .before .before .before .before .before .before .before .before .args .bounds .now in
-    let k = c .before .before .before .before .before .before .before .before .before .amount-kind .ensures in
-    let q = c .before .before .before .before .before .before .before .enum-told7 .given .1 in
-    let t = c .before .before .before .before .before .before .test-small .ensures in
-    let x = c .before .before .before .before .amount-magnitude2 .ensures in
-    let y = c .before .before .amount-magnitude3 .ensures in
-    let link-is = c .before .before .before .before .before .link2 .ensures in
-    let link2-is = c .before .before .before .link3 .ensures in
-    laws.choose-magnitude b h k q t (c .before .if1 .taken) link-is link2-is x y (c .greater-of .ensures)
-
-amount-magnitude-returns-2 : (t : ℕ) → amount-magnitude-lts.Need-returns-2 (amount-magnitude-calls t) (amount-magnitude-at t) amount-magnitude.Post
-amount-magnitude-returns-2 t c =
     let h = c .before .before .before .before .pre .1 .0 in
     let b = c .before .before .before .before .args .bounds .now in
     let k = c .before .before .before .amount-kind .ensures in
     let q = c .before .enum-told .given .1 in
     laws.number-magnitude b h k q (c .distance .ensures)
 
-amount-magnitude-returns-3 : (t : ℕ) → amount-magnitude-lts.Need-returns-3 (amount-magnitude-calls t) (amount-magnitude-at t) amount-magnitude.Post
-amount-magnitude-returns-3 t c =
+amount-magnitude-returns-2 : (t : ℕ) → amount-magnitude-lts.Need-returns-2 (amount-magnitude-calls t) (amount-magnitude-at t) amount-magnitude.Post
+amount-magnitude-returns-2 t c =
     let h = c .before .before .before .before .before .pre .1 .0 in
     let m = c .before .before .before .before .before .pre .1 .1 in
     let b = c .before .before .before .before .before .args .bounds .now in
@@ -331,24 +318,24 @@ amount-magnitude-returns-3 t c =
     let q = c .before .before .enum-told2 .given .1 in
     laws.index-magnitude b h k q m (c .before .label .ensures) (c .bound-of .ensures)
 
-amount-magnitude-returns-4 : (t : ℕ) → amount-magnitude-lts.Need-returns-4 (amount-magnitude-calls t) (amount-magnitude-at t) amount-magnitude.Post
-amount-magnitude-returns-4 t c =
+amount-magnitude-returns-3 : (t : ℕ) → amount-magnitude-lts.Need-returns-3 (amount-magnitude-calls t) (amount-magnitude-at t) amount-magnitude.Post
+amount-magnitude-returns-3 t c =
     let h = c .before .before .before .before .pre .1 .0 in
     let b = c .before .before .before .before .args .bounds .now in
     let k = c .before .before .before .amount-kind .ensures in
     let q = c .before .enum-told3 .given .1 in
     laws.sum-magnitude b h k refl refl q (c .two-summed .ensures)
 
-amount-magnitude-returns-5 : (t : ℕ) → amount-magnitude-lts.Need-returns-5 (amount-magnitude-calls t) (amount-magnitude-at t) amount-magnitude.Post
-amount-magnitude-returns-5 t c =
+amount-magnitude-returns-4 : (t : ℕ) → amount-magnitude-lts.Need-returns-4 (amount-magnitude-calls t) (amount-magnitude-at t) amount-magnitude.Post
+amount-magnitude-returns-4 t c =
     let h = c .before .before .before .before .pre .1 .0 in
     let b = c .before .before .before .before .args .bounds .now in
     let k = c .before .before .before .amount-kind .ensures in
     let q = c .before .enum-told4 .given .1 in
     laws.difference-magnitude b h k refl refl q (c .two-summed2 .ensures)
 
-amount-magnitude-returns-6 : (t : ℕ) → amount-magnitude-lts.Need-returns-6 (amount-magnitude-calls t) (amount-magnitude-at t) amount-magnitude.Post
-amount-magnitude-returns-6 t c =
+amount-magnitude-returns-5 : (t : ℕ) → amount-magnitude-lts.Need-returns-5 (amount-magnitude-calls t) (amount-magnitude-at t) amount-magnitude.Post
+amount-magnitude-returns-5 t c =
     let h = c .before .before .before .before .before .before .before .pre .1 .0 in
     let b = c .before .before .before .before .before .before .before .args .bounds .now in
     let k = c .before .before .before .before .before .before .amount-kind .ensures in
@@ -356,24 +343,27 @@ amount-magnitude-returns-6 t c =
     let y = rw (c .before .before .link .ensures) at (c .before .operand2 .ensures) in
     laws.product-magnitude b h k (c .before .before .before .operand .ensures) y q (c .product-of .ensures)
 
-amount-magnitude-returns-7 : (t : ℕ) → amount-magnitude-lts.Need-returns-7 (amount-magnitude-calls t) (amount-magnitude-at t) amount-magnitude.Post
-amount-magnitude-returns-7 t c =
+amount-magnitude-returns-6 : (t : ℕ) → amount-magnitude-lts.Need-returns-6 (amount-magnitude-calls t) (amount-magnitude-at t) amount-magnitude.Post
+amount-magnitude-returns-6 t c =
     let h = c .before .before .before .before .pre .1 .0 in
     let b = c .before .before .before .before .args .bounds .now in
     let k = c .before .before .before .amount-kind .ensures in
     let q = c .before .enum-told6 .given .1 in
     laws.quotient-magnitude b h k q (c .amount-magnitude .ensures)
 
-amount-magnitude-returns-8 : (t : ℕ) → amount-magnitude-lts.Need-returns-8 (amount-magnitude-calls t) (amount-magnitude-at t) amount-magnitude.Post
-amount-magnitude-returns-8 t c =
+amount-magnitude-returns-7 : (t : ℕ) → amount-magnitude-lts.Need-returns-7 (amount-magnitude-calls t) (amount-magnitude-at t) amount-magnitude.Post
+amount-magnitude-returns-7 t c =
     let h = c .before .before .before .before .before .before .before .before .before .pre .1 .0 in
     let b = c .before .before .before .before .before .before .before .before .before .args .bounds .now in
     let k = c .before .before .before .before .before .before .before .before .amount-kind .ensures in
     let q = c .before .before .before .before .before .before .enum-told7 .given .1 in
-    laws.choose-beyond b h k q (c .before .before .before .before .before .test-small .ensures) (c .if1 .left)
+    let t = c .before .before .before .before .before .test-small .ensures in
+    let x = c .before .before .before .amount-magnitude2 .ensures in
+    let y = c .before .amount-magnitude3 .ensures in
+    laws.choose-magnitude b h k q t (c .before .before .before .before .link2 .ensures) (c .before .before .link3 .ensures) x y (c .greater-where .ensures)
 
-amount-magnitude-returns-9 : (t : ℕ) → amount-magnitude-lts.Need-returns-9 (amount-magnitude-calls t) (amount-magnitude-at t) amount-magnitude.Post
-amount-magnitude-returns-9 t c =
+amount-magnitude-returns-8 : (t : ℕ) → amount-magnitude-lts.Need-returns-8 (amount-magnitude-calls t) (amount-magnitude-at t) amount-magnitude.Post
+amount-magnitude-returns-8 t c =
     let h = c .before .before .before .pre .1 .0 in
     let b = c .before .before .before .args .bounds .now in
     let k = c .before .before .amount-kind .ensures in
@@ -417,9 +407,9 @@ amount-magnitude-part t =
     (amount-magnitude-link-requires-3 t)
     (amount-magnitude-sub-amount-magnitude-3 t)
     (amount-magnitude-amount-magnitude-requires-3 t)
-    (amount-magnitude-greater-of-requires t)
-    (amount-magnitude-returns t)
+    (amount-magnitude-greater-where-requires t)
     (λ c. search needs)
+    (amount-magnitude-returns t)
     (amount-magnitude-returns-2 t)
     (amount-magnitude-returns-3 t)
     (amount-magnitude-returns-4 t)
@@ -427,7 +417,6 @@ amount-magnitude-part t =
     (amount-magnitude-returns-6 t)
     (amount-magnitude-returns-7 t)
     (amount-magnitude-returns-8 t)
-    (amount-magnitude-returns-9 t)
 
 abbrev operand-calls : ℕ → operand-lts.Claims
 operand-calls t = (
