@@ -38,7 +38,7 @@ in-limit : (b : ℤ) → T (between (pos 0) (pos maxAmount) b) → natAbs b ≤ 
 in-limit (pos n) t = omega (arith, parts-le (leZ-yes {a = pos n} {b = pos maxAmount} (and-T (leZ (pos 0) (pos n)) (leZ (pos n) (pos maxAmount)) t .1)))
 in-limit (negsuc n) t = absurd t
 
-bound-at : (bounds : List ℤ) → T (allOf (between (pos 0) (pos maxAmount)) bounds) → (l : ℕ) → boundIn bounds l ≤ maxAmount
+pub bound-at : (bounds : List ℤ) → T (allOf (between (pos 0) (pos maxAmount)) bounds) → (l : ℕ) → boundIn bounds l ≤ maxAmount
 bound-at [] t l = omega arith
 bound-at (b ∷ bs) t zero = in-limit b (and-T (between (pos 0) (pos maxAmount) b) (allOf (between (pos 0) (pos maxAmount)) bs) t .0)
 bound-at (b ∷ bs) t (suc l) = bound-at bs (and-T (between (pos 0) (pos maxAmount) b) (allOf (between (pos 0) (pos maxAmount)) bs) t .1) l

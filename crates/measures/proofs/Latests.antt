@@ -1,67 +1,21 @@
--- The later of two reads, and the latest read of rows that stand together.
-use Prim.Native.Nat.{_+_, _-_, _<_, _≤_, suc, zero, ℕ}
-use Rattle.integers.proofs.Locals.{rd}
+-- The latest read of rows that stand together.
+use Prim.Native.Nat.{_+_, _-_, _<_, _≤_, max, suc, zero, ℕ}
 use Rattle.integers.proofs.Tests.{le-false, le-true}
-use Rattle.integers.specs.declared.Month.{Month}
 use Rattle.language.specs.Limits.{maxNodes}
 use Rattle.language.specs.Rules.Measures.{Latest, atMost, laterOf, latestOf, latestOfTest, maxZ, noMonth}
-use Rattle.measures.proofs.RowsTogether.{Joins, amount-rows, test-rows}
+use Rattle.measures.proofs.Firsts.{later-latest}
+use Rattle.measures.proofs.RowsTogether.{Joins, amount-rows, reading, test-rows}
 use Rattle.measures.specs.Blocks.{AmountBlock, TestBlock}
 use Rattle.measures.specs.Rows.{isIndex, rowLatest, rowsLatest, rowsOf}
-use Rattle.measures.specs.Timing.{latestRead}
-use Rattle.measures.specs.declared.latest.LatestRead.the-variants.{AtMost, NoMonth}
-use Rattle.measures.specs.declared.latest.LatestRead.{LatestRead}
+use Rattle.measures.specs.Timing.{latestMonth}
 use Rattle.nodes.specs.Found.{amountAt, offsetOf, testAt}
-use Rattle.nodes.specs.Table.{slotAt}
+use Rattle.nodes.specs.Table.{natOf, slotAt}
 use lib.IntN.{pos, ℤ}
 use lib.Signed.{leZ}
 use mathlib.Core.Bool.{Bool, cond, false, true}
 use mathlib.Core.List.{List}
-use mathlib.Core.Path.{_∙_, _≡_, ap, refl, sym}
-use mir.Facts.{toZ-ofZ}
-use mir.Syntax.{w64}
-use mir.Val.{SFits}
+use mathlib.Core.Path.{_∙_, _≡_, ap, ap₂, refl, sym}
 use native.Mathlib.Omega.{arith}
-
--- ---- what an answer stands for
-
-pub is-none : (x : Latest) → NoMonth ≡ latestRead x → x ≡ noMonth
-is-none noMonth e = refl
-is-none (atMost i) e = let z : _≡_ {A = ℕ} 0 1 = cc in absurd (omega arith)
-
-month-of : LatestRead → ℤ
-month-of NoMonth = pos 0
-month-of (AtMost m) = m .0
-
-pub is-most : (x : Latest) {m : Month} → AtMost m ≡ latestRead x → x ≡ atMost (m .0)
-unfolding month-of
-is-most noMonth e = let z : _≡_ {A = ℕ} 0 1 = cc in absurd (omega arith)
-is-most (atMost i) e = sym (ap atMost (ap month-of e))
-
--- ---- the later of two
-
-module _ (x y : Latest) {a b : LatestRead} (ea : a ≡ latestRead x) (eb : b ≡ latestRead y) where
-  pub later-none : a ≡ NoMonth → b ≡ latestRead (laterOf x y)
-  unfolding laterOf
-  later-none t = rw (is-none x (sym t ∙ ea)) eb
-
-  module _ {i : Month} (t : a ≡ AtMost i) where
-    pub later-alone : b ≡ NoMonth → AtMost i ≡ latestRead (laterOf x y)
-    unfolding laterOf
-    later-alone u = rw (is-most x (sym t ∙ ea), is-none y (sym u ∙ eb)) refl
-
-    module _ {j : Month} (u : b ≡ AtMost j) (f : SFits w64 (i .0)) (g : SFits w64 (j .0)) where
-      pub later-second : leZ (rd (i .0)) (rd (j .0)) ≡ true → AtMost j ≡ latestRead (laterOf x y)
-      unfolding laterOf
-      later-second q =
-          let w : leZ (i .0) (j .0) ≡ true = rw (toZ-ofZ f, toZ-ofZ g) at q in
-          rw (is-most x (sym t ∙ ea), is-most y (sym u ∙ eb), w) refl
-
-      pub later-first : leZ (rd (i .0)) (rd (j .0)) ≡ false → AtMost i ≡ latestRead (laterOf x y)
-      unfolding laterOf
-      later-first q =
-          let w : leZ (i .0) (j .0) ≡ false = rw (toZ-ofZ f, toZ-ofZ g) at q in
-          rw (is-most x (sym t ∙ ea), is-most y (sym u ∙ eb), w) refl
 
 -- ---- the later of several
 
@@ -113,42 +67,41 @@ latest-joins = record {
 
 module _ (nodes : List ℤ) (from to : ℕ) where
   pub amount-latest : AmountBlock maxNodes nodes from to → (from < to) × (rowsLatest nodes (to - from) from ≡ latestOf (amountAt offsetOf maxNodes nodes from))
-  amount-latest b = let r = amount-rows latest-joins nodes maxNodes from to b in (r .some, r .gives)
+  amount-latest b = let r = amount-rows (reading latest-joins nodes) maxNodes from to b in (r .some, r .gives)
 
   pub test-latest : TestBlock maxNodes nodes from to → (from < to) × (rowsLatest nodes (to - from) from ≡ latestOfTest (testAt offsetOf maxNodes nodes from))
-  test-latest b = let r = test-rows latest-joins nodes maxNodes from to b in (r .some, r .gives)
+  test-latest b = let r = test-rows (reading latest-joins nodes) maxNodes from to b in (r .some, r .gives)
 
 -- ---- a row
 
 module _ (nodes : List ℤ) (at : ℕ) {x : Bool} (ex : x ≡ isIndex (slotAt nodes at 0)) where
-  pub row-index : x ≡ true → {i : Month} → i .0 ≡ slotAt nodes at 2 → AtMost i ≡ latestRead (rowLatest nodes at)
-  row-index t ei = rw (← ex, t, ← ei) refl
+  pub row-index : x ≡ true → {i : ℕ} → i ≡ natOf (slotAt nodes at 2) → i ≡ latestMonth (rowLatest nodes at)
+  row-index t ei = rw (← ex, t) ei
 
-  pub row-other : x ≡ false → NoMonth ≡ latestRead (rowLatest nodes at)
+  pub row-other : x ≡ false → 0 ≡ latestMonth (rowLatest nodes at)
   row-other t = rw (← ex, t) refl
 
 -- ---- the loop: what is left joined to what was passed
 
-pub record Passing (nodes : List ℤ) (from to at : ℕ) (latest : LatestRead) : Type 0 where
+pub record Passing (nodes : List ℤ) (from to at latest : ℕ) : Type 0 where
   pub late : Latest
-  pub is : latest ≡ latestRead late
+  pub is : latest ≡ latestMonth late
   pub low : from ≤ at
   pub high : at ≤ to
   pub left : rowsLatest nodes (to - from) from ≡ laterOf late (rowsLatest nodes (to - at) at)
 
 module _ {nodes : List ℤ} {from to : ℕ} where
-  pub passing-none : from ≤ to → Passing nodes from to from NoMonth
+  pub passing-none : from ≤ to → Passing nodes from to from 0
   unfolding laterOf
   passing-none h = record { late = noMonth; is = refl; low = omega arith; high = h; left = refl }
 
-  pub passing-row : {at : ℕ} {a b r : LatestRead} → Passing nodes from to at a → at < to → b ≡ latestRead (rowLatest nodes at)
-      → ((x y : Latest) → a ≡ latestRead x → b ≡ latestRead y → r ≡ latestRead (laterOf x y)) → Passing nodes from to (at + 1) r
+  pub passing-row : {at a b r : ℕ} → Passing nodes from to at a → at < to → b ≡ latestMonth (rowLatest nodes at) → r ≡ max a b → Passing nodes from to (at + 1) r
   unfolding rowsOf
   passing-row {at} p h eb er =
       let n : to - at ≡ suc (to - (at + 1)) = omega arith in
       record {
         late = laterOf (p .late) (rowLatest nodes at);
-        is = er (p .late) (rowLatest nodes at) (p .is) eb;
+        is = er ∙ ap₂ max (p .is) eb ∙ sym (later-latest (p .late) (rowLatest nodes at));
         low = omega (arith, p .low);
         high = omega arith;
         left =
@@ -156,8 +109,8 @@ module _ {nodes : List ℤ} {from to : ℕ} where
             ∙ sym (later-assoc (p .late) (rowLatest nodes at) (rowsLatest nodes (to - (at + 1)) (at + 1)));
       }
 
-  pub passing-all : {at : ℕ} {a : LatestRead} → Passing nodes from to at a → to ≤ at → a ≡ latestRead (rowsLatest nodes (to - from) from)
+  pub passing-all : {at a : ℕ} → Passing nodes from to at a → to ≤ at → a ≡ latestMonth (rowsLatest nodes (to - from) from)
   unfolding rowsOf
   passing-all {at} p h =
       let n : to - at ≡ zero = omega arith in
-      p .is ∙ ap latestRead (sym (p .left ∙ ap (λ k. laterOf (p .late) (rowsLatest nodes k at)) n ∙ later-second-none (p .late)))
+      p .is ∙ ap latestMonth (sym (p .left ∙ ap (λ k. laterOf (p .late) (rowsLatest nodes k at)) n ∙ later-second-none (p .late)))

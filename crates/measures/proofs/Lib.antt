@@ -4,7 +4,6 @@ pub mod Amounts
 pub mod BlocksLaid
 pub mod Fields
 pub mod FilledReady
-pub mod FirstParts
 pub mod Firsts
 pub mod Joins
 pub mod Latests
@@ -16,6 +15,7 @@ pub mod PlanRows
 pub mod Plans
 pub mod Readings
 pub mod RowLetters
+pub mod RowSums
 pub mod RowsTogether
 pub mod SameReads
 pub mod Windows

@@ -1,17 +1,18 @@
 -- The rows of the amount of an `S` and of the test of a `W`: they stand behind the node, and give what the amount or test gives.
 use Prim.Native.Nat.{_+_, _-_, _≤_, ℕ}
 use Rattle.integers.specs.declared.Month.{Month}
-use Rattle.language.specs.Limits.{maxNodes}
+use Rattle.language.specs.Limits.{maxAmount, maxNodes}
 use Rattle.language.specs.Rules.Measures.{latestOf, latestOfTest}
-use Rattle.language.specs.Rules.Tests.{amountReads, testReads}
+use Rattle.language.specs.Rules.Tests.{amountReads, testReads, testSmall}
 use Rattle.measures.proofs.Latests.{amount-latest, test-latest}
 use Rattle.measures.proofs.Plans.{plan-room, scale-block, scale-ready, within-block, within-ready}
 use Rattle.measures.proofs.Readings.{amount-reads, test-reads}
+use Rattle.measures.proofs.RowSums.{amount-summed, test-summed}
+use Rattle.measures.specs.Magnitudes.{measuredAmount}
 use Rattle.measures.specs.Ready.{PlanReady}
-use Rattle.measures.specs.Rows.{rowsLatest, rowsRead}
+use Rattle.measures.specs.Rows.{rowsLatest, rowsMagnitude, rowsRead}
 use Rattle.measures.specs.Spans.{InReach, tableOf, windowOf}
-use Rattle.measures.specs.Timing.{latestRead}
-use Rattle.measures.specs.declared.latest.LatestRead.{LatestRead}
+use Rattle.measures.specs.Timing.{latestMonth}
 use Rattle.measures.specs.declared.reads.Reach.{Reach}
 use Rattle.measures.specs.declared.reads.Window.{Window}
 use Rattle.nodes.specs.Found.{amountAt, offsetOf, testAt}
@@ -20,7 +21,7 @@ use Rattle.nodes.specs.Table.{linkAt, natOf, slotAt}
 use Rattle.nodes.specs.declared.PlanLetter.the-variants.{Scale, Within}
 use Rattle.nodes.specs.declared.PlanLetter.{PlanLetter}
 use lib.IntN.{ℤ}
-use mathlib.Core.Bool.{Bool}
+use mathlib.Core.Bool.{Bool, true}
 use mathlib.Core.List.{List}
 use mathlib.Core.Path.{_∙_, _≡_, ap}
 use native.Mathlib.Omega.{arith}
@@ -37,16 +38,16 @@ module _ {left at : ℕ} {nodes : List ℤ} (h : PlanReady left nodes at) {l : P
       let b = test-latest nodes (at + 1) (linkAt nodes at 3) (within-block h e t) .0 in
       rw ep (omega (arith, b), omega (arith, plan-room (within-ready h e t .2 .1)))
 
-  module _ {k : LatestRead} (ek : k ≡ latestRead (rowsLatest nodes (p - (at + 1)) (at + 1))) where
-    pub scale-latest : l ≡ Scale → k ≡ latestRead (latestOf (amountAt offsetOf maxNodes nodes (at + 1)))
+  module _ {k : ℕ} (ek : k ≡ latestMonth (rowsLatest nodes (p - (at + 1)) (at + 1))) where
+    pub scale-latest : l ≡ Scale → k ≡ latestMonth (latestOf (amountAt offsetOf maxNodes nodes (at + 1)))
     scale-latest t =
-        ek ∙ ap (λ q. latestRead (rowsLatest nodes (q - (at + 1)) (at + 1))) ep
-        ∙ ap latestRead (amount-latest nodes (at + 1) (linkAt nodes at 3) (scale-block h e t) .1)
+        ek ∙ ap (λ q. latestMonth (rowsLatest nodes (q - (at + 1)) (at + 1))) ep
+        ∙ ap latestMonth (amount-latest nodes (at + 1) (linkAt nodes at 3) (scale-block h e t) .1)
 
-    pub within-latest : l ≡ Within → k ≡ latestRead (latestOfTest (testAt offsetOf maxNodes nodes (at + 1)))
+    pub within-latest : l ≡ Within → k ≡ latestMonth (latestOfTest (testAt offsetOf maxNodes nodes (at + 1)))
     within-latest t =
-        ek ∙ ap (λ q. latestRead (rowsLatest nodes (q - (at + 1)) (at + 1))) ep
-        ∙ ap latestRead (test-latest nodes (at + 1) (linkAt nodes at 3) (within-block h e t) .1)
+        ek ∙ ap (λ q. latestMonth (rowsLatest nodes (q - (at + 1)) (at + 1))) ep
+        ∙ ap latestMonth (test-latest nodes (at + 1) (linkAt nodes at 3) (within-block h e t) .1)
 
   module _ {reach : ℕ} {first last : Month} {span : Reach} (m : InReach reach first last span) {w : Window} (ew : w ≡ windowOf first last span)
       {x : Bool} (ex : x ≡ rowsRead w nodes (p - (at + 1)) (at + 1)) where
@@ -55,3 +56,10 @@ module _ {left at : ℕ} {nodes : List ℤ} (h : PlanReady left nodes at) {l : P
 
     pub within-window : l ≡ Within → x ≡ testReads (tableOf span) (natOf (first .0)) (natOf (last .0)) (testAt offsetOf maxNodes nodes (at + 1))
     within-window t = ex ∙ rw (ew, ep) (test-reads m nodes (at + 1) (linkAt nodes at 3) (within-block h e t) .1)
+
+  module _ (bound : ℕ → ℕ) {r : ℕ} (er : r ≡ rowsMagnitude bound nodes (p - (at + 1)) (at + 1)) where
+    pub scale-summed : l ≡ Scale → r ≤ maxAmount → r ≡ measuredAmount bound (amountAt offsetOf maxNodes nodes (at + 1))
+    scale-summed t k = amount-summed bound nodes (at + 1) p er k (rw ep (scale-block h e t))
+
+    pub within-summed : l ≡ Within → r ≤ maxAmount → testSmall bound (testAt offsetOf maxNodes nodes (at + 1)) ≡ true
+    within-summed t k = test-summed bound nodes (at + 1) p er k (rw ep (within-block h e t))

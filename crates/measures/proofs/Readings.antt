@@ -9,7 +9,7 @@ use Rattle.language.specs.Limits.{maxNodes}
 use Rattle.language.specs.Rules.Table.{readable}
 use Rattle.language.specs.Rules.Tests.{amountReads, testReads}
 use Rattle.measures.proofs.Fields.{whole}
-use Rattle.measures.proofs.RowsTogether.{Joins, amount-rows, test-rows}
+use Rattle.measures.proofs.RowsTogether.{Joins, amount-rows, reading, test-rows}
 use Rattle.measures.specs.Blocks.{AmountBlock, TestBlock}
 use Rattle.measures.specs.Rows.{inWindow, rowReads, rowsOf, rowsRead}
 use Rattle.measures.specs.Spans.{InReach, tableOf, windowOf}
@@ -122,11 +122,11 @@ module _ {left : ℕ} {first last : Month} {span : Reach} (m : InReach left firs
 
   pub amount-reads : (nodes : List ℤ) (from to : ℕ) → AmountBlock maxNodes nodes from to
       → (from < to) × (rowsRead (windowOf first last span) nodes (to - from) from ≡ amountReads (tableOf span) a z (amountAt offsetOf maxNodes nodes from))
-  amount-reads nodes from to b = let r = amount-rows reads-join nodes maxNodes from to b in (r .some, r .gives)
+  amount-reads nodes from to b = let r = amount-rows (reading reads-join nodes) maxNodes from to b in (r .some, r .gives)
 
   pub test-reads : (nodes : List ℤ) (from to : ℕ) → TestBlock maxNodes nodes from to
       → (from < to) × (rowsRead (windowOf first last span) nodes (to - from) from ≡ testReads (tableOf span) a z (testAt offsetOf maxNodes nodes from))
-  test-reads nodes from to b = let r = test-rows reads-join nodes maxNodes from to b in (r .some, r .gives)
+  test-reads nodes from to b = let r = test-rows (reading reads-join nodes) maxNodes from to b in (r .some, r .gives)
 
 -- ---- the loop: whether every row that was passed can be read
 

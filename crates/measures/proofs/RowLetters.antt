@@ -68,3 +68,18 @@ test-other x {m} e h = by (isIndex x) refl
     by : (b : Bool) → isIndex x ≡ b → b ≡ false
     by true q = absurd (false≢true (sym no-test ∙ ap (λ y. isTest (testLetter y)) (sym (byte-of x 79 q)) ∙ ap isTest e ∙ h))
     by false q = refl
+
+-- the letter of a test is the letter of no amount
+pub test-no-amount : (x : ℤ) {m : TestLetter} → testLetter x ≡ m → isTest m ≡ true → amountLetter x ≡ amount.NoAmount
+unfolding testLetter amountLetter
+test-no-amount x {m} e h =
+    by (eqZ x (pos 71)) (eqZ x (pos 69)) (eqZ x (pos 89)) (eqZ x (pos 86)) (eqZ x (pos 82)) refl refl refl refl refl (ap isTest e ∙ h)
+  where
+    by : (g u y v n : Bool) → eqZ x (pos 71) ≡ g → eqZ x (pos 69) ≡ u → eqZ x (pos 89) ≡ y → eqZ x (pos 86) ≡ v → eqZ x (pos 82) ≡ n
+        → isTest (cond g test.Less (cond u test.Equal (cond y test.Conjunction (cond v test.Disjunction (cond n test.Negation test.NoTest))))) ≡ true → amountLetter x ≡ amount.NoAmount
+    by true u y v n eg eu ey ev en t = rw (byte-of x 71 eg) refl
+    by false true y v n eg eu ey ev en t = rw (byte-of x 69 eu) refl
+    by false false true v n eg eu ey ev en t = rw (byte-of x 89 ey) refl
+    by false false false true n eg eu ey ev en t = rw (byte-of x 86 ev) refl
+    by false false false false true eg eu ey ev en t = rw (byte-of x 82 en) refl
+    by false false false false false eg eu ey ev en t = absurd (false≢true t)

@@ -1,12 +1,16 @@
--- What rows that stand together give: their latest read, and whether each `O` can be read.
-use Prim.Native.Nat.{_+_, suc, zero, ℕ}
+-- What rows that stand together give: their latest read, whether each `O` can be read, and their magnitudes summed.
+use Prim.Native.Nat.{_+_, min, suc, zero, ℕ}
 use Rattle.integers.specs.Equal.{eqZ}
 use Rattle.language.specs.Rules.Measures.{Latest, atMost, laterOf, noMonth}
 use Rattle.language.specs.Text.Number.{byte}
+use Rattle.measures.specs.Magnitudes.{beyond}
 use Rattle.measures.specs.declared.reads.Window.{Window}
+use Rattle.nodes.specs.Letters.{amountLetter}
 use Rattle.nodes.specs.Table.{natOf, slotAt}
+use Rattle.nodes.specs.declared.AmountLetter.the-variants.{Choose, Difference, Index, NoAmount, Number, Product, Quotient, Sum}
+use Rattle.nodes.specs.declared.AmountLetter.{AmountLetter}
 use lib.Dec.{ltb}
-use lib.IntN.{pos, ℤ}
+use lib.IntN.{natAbs, pos, ℤ}
 use lib.Signed.{leZ}
 use mathlib.Core.Bool.{Bool, _&&_, cond, true}
 use mathlib.Core.List.{List}
@@ -38,3 +42,20 @@ rowReads w nodes at = rowBy true (λ l i. inWindow w l i) nodes at
 
 abbrev pub rowsRead : Window → List ℤ → ℕ → ℕ → Bool
 rowsRead w nodes n from = rowsOf true _&&_ (λ at. rowReads w nodes at) n from
+
+-- what a row adds to the magnitudes of rows: an `N` its distance from zero, an `O` its bound; a `K` or an `I`, which is no sum, counts as beyond
+abbrev pub magnitudeBy : (ℕ → ℕ) → AmountLetter → ℤ → ℕ
+magnitudeBy bound Number n = min (natAbs n) beyond
+magnitudeBy bound Index n = bound (natOf n)
+magnitudeBy bound Sum n = 0
+magnitudeBy bound Difference n = 0
+magnitudeBy bound Product n = beyond
+magnitudeBy bound Quotient n = 0
+magnitudeBy bound Choose n = beyond
+magnitudeBy bound NoAmount n = 0
+
+abbrev pub rowMagnitude : (ℕ → ℕ) → List ℤ → ℕ → ℕ
+rowMagnitude bound nodes at = magnitudeBy bound (amountLetter (slotAt nodes at 0)) (slotAt nodes at 1)
+
+abbrev pub rowsMagnitude : (ℕ → ℕ) → List ℤ → ℕ → ℕ → ℕ
+rowsMagnitude bound nodes n from = rowsOf 0 _+_ (λ at. rowMagnitude bound nodes at) n from

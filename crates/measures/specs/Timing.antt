@@ -1,33 +1,23 @@
--- The answers for first and latest.
-use Prim.Native.Nat.{ℕ}
-use Rattle.integers.specs.Bounded.{Small}
-use Rattle.integers.specs.declared.Month.{Month}
-use Rattle.language.specs.Rules.Measures.{First, Latest, atMost, firstOf, from, never, noMonth}
-use Rattle.language.specs.Rules.Tests.{knownInTime}
-use Rattle.language.specs.Text.Trees.{Plan}
-use Rattle.measures.specs.declared.first.FirstPay.the-variants.{From, Late, Never}
-use Rattle.measures.specs.declared.first.FirstPay.{FirstPay}
-use Rattle.measures.specs.declared.latest.LatestRead.the-variants.{AtMost, NoMonth}
-use Rattle.measures.specs.declared.latest.LatestRead.{LatestRead}
-use lib.IntN.{pos}
-use mathlib.Core.Bool.{Bool, false, true}
-use mathlib.Core.Path.{_≡_}
+-- The answers for first and latest, each as one number.
+use Prim.Native.Nat.{_≤_, ℕ}
+use Rattle.language.specs.Rules.Measures.{First, Latest, atMost, from, never, noMonth}
+use Rattle.nodes.specs.Table.{natOf}
 
--- the latest read of an amount or test
-abbrev pub latestRead : Latest → LatestRead
-latestRead noMonth = NoMonth
-latestRead (atMost i) = AtMost (record { 0 = i })
+-- a month that no plan reaches: what stands for never
+abbrev pub neverMonth : ℕ
+neverMonth = 1_000_000
 
--- the first month of a plan, where all of it is known in time
-abbrev pub firstPay : Bool → First → FirstPay
-firstPay false x = Late
-firstPay true never = Never
-firstPay true (from n) = From (record { 0 = pos n })
+-- the first month in which a plan may pay
+abbrev pub firstMonth : First → ℕ
+firstMonth never = neverMonth
+firstMonth (from n) = n
 
--- what a walk for first answers
-abbrev pub firstPayOf : Plan ℕ → FirstPay
-firstPayOf x = firstPay (knownInTime x) (firstOf x)
+-- the latest read of an amount or test, 0 where it reads nothing that is yet to come
+abbrev pub latestMonth : Latest → ℕ
+latestMonth noMonth = 0
+latestMonth (atMost i) = natOf i
 
--- a month that can be added
-pub record SmallPay (a : FirstPay) : Type 0 where
-  pub small : (m : Month) → a ≡ From m → Small (m .0)
+-- no later than a plan can reach
+abbrev pub FewMonths : First → Type 0
+FewMonths never = Unit {0}
+FewMonths (from n) = n ≤ 20_000

@@ -1,7 +1,5 @@
 // The measures of a filled plan in the node table: length, first and latest, reads, magnitude.
 pub mod first;
-pub mod latest;
-pub mod length;
 pub mod limit;
 pub mod magnitude;
 pub mod node;

@@ -1,7 +1,7 @@
 // A magnitude as one number: itself where it is within the limit, else one more than the limit. Two of them joined.
 ghost use mathlib.Core.Path.{_≡_};
 ghost use mathlib.Core.Bool.{cond};
-ghost use Prim.Native.Nat.{_+_, _*_, _≤_, max};
+ghost use Prim.Native.Nat.{_+_, _*_, _≤_, max, min};
 ghost use lib.Dec.{leb};
 ghost use Rattle.language.specs.Limits.{maxAmount};
 ghost use Rattle.measures.specs.Magnitudes.{beyond, joined};
@@ -9,12 +9,22 @@ ghost use Rattle.measures.specs.Magnitudes.{beyond, joined};
 const LIMIT: u64 = 9_000_000_000_000;
 
 // What stands for every magnitude that is beyond the limit.
-const BEYOND: u64 = 9_000_000_000_001;
+pub const BEYOND: u64 = 9_000_000_000_001;
 
 pub fn is_within(a: u64) -> bool
     ensures { λ r. ⌜ r ≡ leb a maxAmount ⌝ }
 {
     a <= LIMIT
+}
+
+// Beyond for every magnitude that is.
+pub fn capped(a: u64) -> u64
+    ensures { λ r. ⌜ r ≡ min a beyond ⌝ }
+{
+    if a <= LIMIT {
+        return a;
+    }
+    BEYOND
 }
 
 pub fn sum_of(a: u64, b: u64) -> u64

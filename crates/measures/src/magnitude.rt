@@ -16,7 +16,7 @@ use nodes::TestLetter;
 // ---- a node's own
 
 // The distance from zero of an `N`.
-fn distance(nodes: &[i64; 2560], at: usize) -> u64
+pub fn distance(nodes: &[i64; 2560], at: usize) -> u64
     requires { ⌜ at < 512 ⌝ }
     ensures { λ r. ⌜ r ≡ natAbs (slotAt (now (nodes .entry)) at 1) ⌝ }
 {
@@ -24,7 +24,7 @@ fn distance(nodes: &[i64; 2560], at: usize) -> u64
 }
 
 // A label's bound, 0 for an absent label.
-fn bound_of(bounds: &[i64], l: usize) -> u64
+pub fn bound_of(bounds: &[i64], l: usize) -> u64
     ensures { λ r. ⌜ r ≡ boundIn (now (bounds .entry)) l ⌝ }
 {
     if l < bounds.len() {
@@ -78,7 +78,7 @@ pub fn test_small(nodes: &[i64; 2560], at: usize, left: usize, bounds: &[i64]) -
 }
 
 // The magnitude of an amount: a number or an index without a call.
-pub fn operand(nodes: &[i64; 2560], at: usize, left: usize, bounds: &[i64]) -> u64
+fn operand(nodes: &[i64; 2560], at: usize, left: usize, bounds: &[i64]) -> u64
     requires { ⌜ AmountReady left (now nodes) at × InBounds (now bounds) ⌝ }
     ensures { λ r. ⌜ r ≡ measuredAmount (boundIn (now (bounds .entry))) (amountAt offsetOf left (now (nodes .entry)) at) ⌝ }
 {

@@ -80,3 +80,27 @@ pub fn label(nodes: &[i64; 2560], at: usize) -> usize
     }
     l as usize
 }
+
+// The offset of an `O`; one below zero counts as 0.
+pub fn ahead(nodes: &[i64; 2560], at: usize) -> u64
+    requires { ⌜ at < 512 ⌝ }
+    ensures { λ r. ⌜ r ≡ natOf (slotAt (now (nodes .entry)) at 2) ⌝ }
+{
+    let i = nodes::slot(nodes, at, 2);
+    if i < 0 {
+        return 0;
+    }
+    i as u64
+}
+
+// A delay as a plain number; one below zero counts as none.
+pub fn months(nodes: &[i64; 2560], at: usize) -> u64
+    requires { ⌜ at < 512 ⌝ }
+    ensures { λ r. ⌜ r ≡ natOf (slotAt (now (nodes .entry)) at 1) ⌝ }
+{
+    let d = nodes::slot(nodes, at, 1);
+    if d < 0 {
+        return 0;
+    }
+    d as u64
+}

@@ -1,23 +1,21 @@
-// What the rules ask of a plan, in one walk: its length, its first month, its reads, its magnitude.
+// What the rules ask of a plan, in one walk: its length, its first month, whether all of it is known in time, its reads, its magnitude.
 ghost use mathlib.Core.Path.{_≡_};
-ghost use mathlib.Core.Bool.{Bool};
-ghost use Prim.Native.Nat.{_+_, ℕ};
-ghost use lib.IntN.{pos, ℤ};
-ghost use Rattle.integers.specs.Bounded.{Small};
+ghost use Prim.Native.Nat.{_+_, _≤_, ℕ};
+ghost use lib.IntN.{ℤ};
+ghost use Rattle.language.specs.Limits.{maxAmount, maxMonths};
 ghost use Rattle.language.specs.Rules.Measures.{latestOf, latestOfTest};
 ghost use Rattle.language.specs.Rules.Table.{Table};
 ghost use Rattle.language.specs.Rules.Tests.{amountReads, testReads, testSmall};
 ghost use Rattle.language.specs.Text.Trees.{Amount, Plan, Test, both, later, nothing, scale, transfer, within};
-ghost use Rattle.nodes.specs.Found.{planAt};
+ghost use Rattle.nodes.specs.Found.{amountAt, offsetOf, planAt, testAt};
 ghost use Rattle.nodes.specs.Table.{natOf};
 ghost use Rattle.measures.specs.Magnitudes.{InBounds, boundIn, measuredAmount};
 ghost use Rattle.measures.specs.PlanMeasures.{Addable, MeasuresOf};
-ghost use Rattle.measures.specs.Ready.{PlanReady};
+ghost use Rattle.measures.specs.Ready.{AmountReady, PlanReady, TestReady};
 ghost use Rattle.measures.specs.Spans.{InReach, tableOf};
-ghost use Rattle.measures.specs.Timing.{latestRead};
+ghost use Rattle.measures.specs.Timing.{latestMonth};
+ghost use mathlib.Core.Bool.{true};
 use crate::first;
-use crate::first::FirstPay;
-use crate::length;
 use crate::limit;
 use crate::magnitude;
 use crate::node;
@@ -29,10 +27,35 @@ use integers::Month;
 use nodes::PlanLetter;
 
 pub struct Measures {
-    pub length: Month,
-    pub first: FirstPay,
-    pub reads: bool,
+    pub length: u64,
+    pub first: u64,
     pub magnitude: u64,
+    pub known: bool,
+    pub reads: bool,
+}
+
+// ---- an amount and a test, from the magnitudes of their rows summed; by a walk where that is beyond the limit
+
+fn amount_of(nodes: &[i64; 2560], at: usize, rows: u64, bounds: &[i64]) -> u64
+    requires { ⌜ AmountReady 512 (now nodes) at × InBounds (now bounds)
+        × (rows ≤ maxAmount → rows ≡ measuredAmount (boundIn (now bounds)) (amountAt offsetOf 512 (now nodes) at)) ⌝ }
+    ensures { λ r. ⌜ r ≡ measuredAmount (boundIn (now (bounds .entry))) (amountAt offsetOf 512 (now (nodes .entry)) at) ⌝ }
+{
+    if limit::is_within(rows) {
+        return rows;
+    }
+    magnitude::amount_magnitude(nodes, at, 512, bounds)
+}
+
+fn test_of(nodes: &[i64; 2560], at: usize, rows: u64, bounds: &[i64]) -> bool
+    requires { ⌜ TestReady 512 (now nodes) at × InBounds (now bounds)
+        × (rows ≤ maxAmount → testSmall (boundIn (now bounds)) (testAt offsetOf 512 (now nodes) at) ≡ true) ⌝ }
+    ensures { λ r. ⌜ r ≡ testSmall (boundIn (now (bounds .entry))) (testAt offsetOf 512 (now (nodes .entry)) at) ⌝ }
+{
+    if limit::is_within(rows) {
+        return true;
+    }
+    magnitude::test_small(nodes, at, 512, bounds)
 }
 
 // ---- each letter, from its parts
@@ -41,10 +64,11 @@ fn of_nothing() -> Measures
     ensures { λ r. ⌜ ((t : Table) (a z : ℕ) (bound : ℕ → ℕ) → MeasuresOf t a z bound nothing r) ⌝ }
 {
     Measures {
-        length: Month(0),
-        first: FirstPay::Never,
-        reads: true,
+        length: 0,
+        first: first::NEVER,
         magnitude: 0,
+        known: true,
+        reads: true,
     }
 }
 
@@ -52,50 +76,53 @@ fn of_transfer() -> Measures
     ensures { λ r. ⌜ ((t : Table) (a z : ℕ) (bound : ℕ → ℕ) (p q : ℕ) → MeasuresOf t a z bound (transfer p q) r) ⌝ }
 {
     Measures {
-        length: Month(0),
-        first: FirstPay::From(Month(0)),
-        reads: true,
+        length: 0,
+        first: 0,
         magnitude: 1,
+        known: true,
+        reads: true,
     }
 }
 
 // A plan times an amount: its rows, and its magnitude m.
 fn of_scale(rows: Rows, m: u64, x: Measures) -> Measures
+    requires { ⌜ Addable x ⌝ }
     ensures { λ r. ⌜ ((t : Table) (a z : ℕ) (bound : ℕ → ℕ) (n : Amount ℤ) (p : Plan ℕ)
-        → rows .latest ≡ latestRead (latestOf n) → rows .reads ≡ amountReads t a z n → m ≡ measuredAmount bound n
+        → rows .latest ≡ latestMonth (latestOf n) → rows .reads ≡ amountReads t a z n → m ≡ measuredAmount bound n
         → MeasuresOf t a z bound p x → MeasuresOf t a z bound (scale n p) r) ⌝ }
 {
     let length = x.length;
-    let latest = rows.latest;
-    let paid = x.first;
-    let first = first::in_time(latest, paid);
-    let reads = rows.reads & x.reads;
+    let first = x.first;
     let magnitude = limit::product_of(m, x.magnitude);
+    let timely = first::in_time(rows.latest, x.first);
+    let known = timely & x.known;
+    let reads = rows.reads & x.reads;
     Measures {
         length: length,
         first: first,
-        reads: reads,
         magnitude: magnitude,
+        known: known,
+        reads: reads,
     }
 }
 
 // A plan d months later.
-fn of_later(d: Month, x: Measures) -> Measures
-    requires { ⌜ Small (d .0) × Addable x ⌝ }
-    ensures { λ r. ⌜ ((t : Table) (a z : ℕ) (bound : ℕ → ℕ) (n : ℕ) (p : Plan ℕ)
-        → d .0 ≡ pos n → MeasuresOf t (a + n) (z + n) bound p x → MeasuresOf t a z bound (later n p) r) ⌝ }
+fn of_later(d: u64, x: Measures) -> Measures
+    requires { ⌜ (d ≤ maxMonths) × Addable x × (x .first ≤ 1_000_000) ⌝ }
+    ensures { λ r. ⌜ ((t : Table) (a z : ℕ) (bound : ℕ → ℕ) (p : Plan ℕ)
+        → MeasuresOf t (a + d) (z + d) bound p x → MeasuresOf t a z bound (later d p) r) ⌝ }
 {
-    let after = x.length;
-    let length = integers::later(d, after);
-    let paid = x.first;
-    let first = first::after_delay(d, paid);
-    let reads = x.reads;
+    let length = d + x.length;
+    let first = first::after_delay(d, x.first);
     let magnitude = x.magnitude;
+    let known = x.known;
+    let reads = x.reads;
     Measures {
         length: length,
         first: first,
-        reads: reads,
         magnitude: magnitude,
+        known: known,
+        reads: reads,
     }
 }
 
@@ -104,44 +131,40 @@ fn of_both(x: Measures, y: Measures) -> Measures
     ensures { λ r. ⌜ ((t : Table) (a z : ℕ) (bound : ℕ → ℕ) (p q : Plan ℕ)
         → MeasuresOf t a z bound p x → MeasuresOf t a z bound q y → MeasuresOf t a z bound (both p q) r) ⌝ }
 {
-    let one = x.length;
-    let other = y.length;
-    let length = length::longer(one, other);
-    let paid = x.first;
-    let due = y.first;
-    let first = first::sooner_of(paid, due);
-    let reads = x.reads & y.reads;
+    let length = first::later_of(x.length, y.length);
+    let first = first::sooner_of(x.first, y.first);
     let magnitude = limit::sum_of(x.magnitude, y.magnitude);
+    let known = x.known & y.known;
+    let reads = x.reads & y.reads;
     Measures {
         length: length,
         first: first,
-        reads: reads,
         magnitude: magnitude,
+        known: known,
+        reads: reads,
     }
 }
 
 // The one plan or the other within d months: the test's rows, and whether it is small.
-fn of_within(d: Month, rows: Rows, small: bool, x: Measures, y: Measures) -> Measures
-    requires { ⌜ Small (d .0) × Addable x × Addable y ⌝ }
-    ensures { λ r. ⌜ ((t : Table) (a z : ℕ) (bound : ℕ → ℕ) (n : ℕ) (c : Test ℤ) (p q : Plan ℕ)
-        → d .0 ≡ pos n → rows .latest ≡ latestRead (latestOfTest c) → rows .reads ≡ testReads t a (z + n) c → small ≡ testSmall bound c
-        → MeasuresOf t a (z + n) bound p x → MeasuresOf t (a + n) (z + n) bound q y → MeasuresOf t a z bound (within n c p q) r) ⌝ }
+fn of_within(d: u64, rows: Rows, small: bool, x: Measures, y: Measures) -> Measures
+    requires { ⌜ (d ≤ maxMonths) × Addable x × Addable y ⌝ }
+    ensures { λ r. ⌜ ((t : Table) (a z : ℕ) (bound : ℕ → ℕ) (c : Test ℤ) (p q : Plan ℕ)
+        → rows .latest ≡ latestMonth (latestOfTest c) → rows .reads ≡ testReads t a (z + d) c → small ≡ testSmall bound c
+        → MeasuresOf t a (z + d) bound p x → MeasuresOf t (a + d) (z + d) bound q y → MeasuresOf t a z bound (within d c p q) r) ⌝ }
 {
-    let one = x.length;
-    let other = y.length;
-    let after = length::longer(one, other);
-    let length = integers::later(d, after);
-    let paid = x.first;
-    let due = y.first;
-    let latest = rows.latest;
-    let first = first::tried_in_time(latest, first::sooner_of(paid, due));
-    let reads = rows.reads & (x.reads & y.reads);
+    let after = first::later_of(x.length, y.length);
+    let length = d + after;
+    let paid = first::sooner_of(x.first, y.first);
     let magnitude = limit::greater_where(small, x.magnitude, y.magnitude);
+    let timely = first::tried_in_time(rows.latest);
+    let known = timely & (x.known & y.known);
+    let reads = rows.reads & (x.reads & y.reads);
     Measures {
         length: length,
-        first: first,
-        reads: reads,
+        first: paid,
         magnitude: magnitude,
+        known: known,
+        reads: reads,
     }
 }
 
@@ -166,8 +189,9 @@ pub fn measure_plan(
         PlanLetter::Transfer => of_transfer(),
         PlanLetter::Scale => {
             let next = nodes::link(nodes, at, 3);
-            let rows = rows::read_rows(nodes, at + 1, next, reads::window_of(first, last, span));
-            let m = magnitude::operand(nodes, at + 1, 512, bounds);
+            let w = reads::window_of(first, last, span);
+            let rows = rows::read_rows(nodes, at + 1, next, w, bounds);
+            let m = amount_of(nodes, at + 1, rows.magnitude, bounds);
             if node::is_transfer(nodes, next) {
                 return of_scale(rows, m, of_transfer());
             }
@@ -179,7 +203,7 @@ pub fn measure_plan(
             let a = integers::later(first, d);
             let z = integers::later(last, d);
             let x = measure_plan(nodes, at + 1, left - 1, a, z, span, bounds);
-            of_later(d, x)
+            of_later(node::months(nodes, at), x)
         }
         PlanLetter::Both => {
             let next = nodes::link(nodes, at, 3);
@@ -193,11 +217,12 @@ pub fn measure_plan(
             let z = integers::later(last, d);
             let next = nodes::link(nodes, at, 3);
             let other = nodes::link(nodes, at, 4);
-            let rows = rows::read_rows(nodes, at + 1, next, reads::window_of(first, z, span));
-            let t = magnitude::test_small(nodes, at + 1, 512, bounds);
+            let w = reads::window_of(first, z, span);
+            let rows = rows::read_rows(nodes, at + 1, next, w, bounds);
+            let t = test_of(nodes, at + 1, rows.magnitude, bounds);
             let x = measure_plan(nodes, next, left - 1, first, z, span, bounds);
             let y = measure_plan(nodes, other, left - 1, a, z, span, bounds);
-            of_within(d, rows, t, x, y)
+            of_within(node::months(nodes, at), rows, t, x, y)
         }
         PlanLetter::NoPlan => of_nothing(),
     }

@@ -1,34 +1,71 @@
-// What the rows of an amount or test read: the latest month, and whether all of it lies in a window.
+// What the rows of an amount or test give: their latest read, whether all of it lies in a window, and their magnitudes summed.
 ghost use mathlib.Core.Path.{_≡_};
-ghost use Prim.Native.Nat.{_-_, _≤_};
-ghost use Rattle.measures.specs.Rows.{rowsLatest, rowsRead};
-ghost use Rattle.measures.specs.Timing.{latestRead};
-use crate::latest;
-use crate::latest::LatestRead;
+ghost use Prim.Native.Nat.{_-_, _<_, _≤_};
+ghost use Rattle.measures.specs.Magnitudes.{InBounds, boundIn};
+ghost use Rattle.measures.specs.Rows.{rowLatest, rowMagnitude, rowsLatest, rowsMagnitude, rowsRead};
+ghost use Rattle.measures.specs.Timing.{latestMonth};
+use crate::first;
+use crate::limit;
+use crate::magnitude;
+use crate::node;
 use crate::reads;
 use crate::reads::Window;
+use nodes::AmountLetter;
 
 pub struct Rows {
-    pub latest: LatestRead,
+    pub latest: u64,
+    pub magnitude: u64,
     pub reads: bool,
 }
 
-pub fn read_rows(nodes: &[i64; 2560], from: usize, to: usize, w: Window) -> Rows
-    requires { ⌜ (from ≤ to) × (to ≤ 512) ⌝ }
-    ensures { λ r. ⌜
-        (r .latest ≡ latestRead (rowsLatest (now (nodes .entry)) (to - from) from)) ×
-        (r .reads ≡ rowsRead w (now (nodes .entry)) (to - from) from) ⌝ }
+fn row_latest(nodes: &[i64; 2560], at: usize) -> u64
+    requires { ⌜ at < 512 ⌝ }
+    ensures { λ r. ⌜ r ≡ latestMonth (rowLatest (now (nodes .entry)) at) ⌝ }
 {
-    let mut latest = LatestRead::NoMonth;
+    if node::is_index(nodes, at) {
+        return node::ahead(nodes, at);
+    }
+    0
+}
+
+// What a row adds to the magnitudes of rows.
+fn row_magnitude(nodes: &[i64; 2560], at: usize, bounds: &[i64]) -> u64
+    requires { ⌜ at < 512 ⌝ }
+    ensures { λ r. ⌜ r ≡ rowMagnitude (boundIn (now (bounds .entry))) (now (nodes .entry)) at ⌝ }
+{
+    let letter = node::amount_kind(nodes, at);
+    match letter {
+        AmountLetter::Number => limit::capped(magnitude::distance(nodes, at)),
+        AmountLetter::Index => magnitude::bound_of(bounds, node::label(nodes, at)),
+        AmountLetter::Sum => 0,
+        AmountLetter::Difference => 0,
+        AmountLetter::Product => limit::BEYOND,
+        AmountLetter::Quotient => 0,
+        AmountLetter::Choose => limit::BEYOND,
+        AmountLetter::NoAmount => 0,
+    }
+}
+
+pub fn read_rows(nodes: &[i64; 2560], from: usize, to: usize, w: Window, bounds: &[i64]) -> Rows
+    requires { ⌜ (from ≤ to) × (to ≤ 512) × InBounds (now bounds) ⌝ }
+    ensures { λ r. ⌜
+        (r .latest ≡ latestMonth (rowsLatest (now (nodes .entry)) (to - from) from)) ×
+        (r .reads ≡ rowsRead w (now (nodes .entry)) (to - from) from) ×
+        (r .magnitude ≡ rowsMagnitude (boundIn (now (bounds .entry))) (now (nodes .entry)) (to - from) from) ⌝ }
+{
+    let mut latest = 0u64;
+    let mut total = 0u64;
     let mut reads = true;
     let mut at = from;
     while at < to {
-        latest = latest::later_of(latest, latest::row_latest(nodes, at));
+        latest = first::later_of(latest, row_latest(nodes, at));
         reads = reads & reads::row_reads(nodes, at, w);
+        total += row_magnitude(nodes, at, bounds);
         at += 1;
     }
     Rows {
         latest: latest,
+        magnitude: total,
         reads: reads,
     }
 }

@@ -1,6 +1,6 @@
 -- The rules of a filled plan in their order, as the code goes through them.
 use Prim.Native.Nat.{_+_, _≤_, ℕ}
-use borrow.Author.Tests.{le-leb, leb-true, lt-leb}
+use borrow.Author.Tests.{le-leb, lt-leb}
 use lib.Dec.{T, leb}
 use lib.IntN.{_+ℤ_, natAbs, negsuc, pos, ℤ}
 use lib.Signed.{ltZ, nonNeg}
@@ -43,13 +43,13 @@ from-zero (negsuc n) h = absurd h
 pub few-months : (today : ℤ) (s : Reach) (bounds : List ℤ) → InTable today (s .h) (s .f) (s .labels) bounds → Small today
 few-months today s bounds h = record { small = omega (arith, h .todayTo) }
 
--- a magnitude within the limit as a signed number
-module _ {m : ℕ} (w : leb m maxAmount ≡ true) where
-  pub amount-fits : SFits w64 (pos m)
-  amount-fits = sfits64 maxAmount (leb-true m maxAmount w) tt
+-- a number within the limit of amounts as a signed number
+module _ {m : ℕ} (h : m ≤ maxAmount) where
+  pub plain-fits : SFits w64 (pos m)
+  plain-fits = sfits64 maxAmount h tt
 
-  pub amount-read : toZ w64 m ≡ pos m
-  amount-read = toZ-pos w64 (omega (arith, leb-true m maxAmount w))
+  pub plain-read : toZ w64 m ≡ pos m
+  plain-read = toZ-pos w64 (omega (arith, h))
 
 natural : (z : ℤ) → natOf z ≤ natAbs z
 natural (pos n) = omega arith

@@ -27,14 +27,13 @@ pub fn measure(nodes: &[i64; 2560], today: Month, reach: Reach, bounds: &[i64]) 
     ensures { λ r. ⌜ (checkingAnswer r ≡ measuredBy (reach .h) (reach .f) (now (bounds .entry)) (natOf (today .0)) (planAt natOf 32 (now (nodes .entry)) 0)) × Natural r ⌝ }
 {
     let m = measures::plan::measure_plan(nodes, 0, 32, today, today, reach, bounds);
-    let length = m.length;
+    let length = Month(m.length as i64);
     let last = integers::later(today, length);
     if reach.f < last.0 {
         return Checking::Refused(Refusal::Length);
     }
     if m.reads {
-        let first = m.first;
-        if measures::first::is_known(first) {
+        if m.known {
             if measures::limit::is_within(m.magnitude) {
                 Checking::Accepted(length, Pence(m.magnitude as i64))
             } else {

@@ -5,9 +5,12 @@ use Rattle.measures.proofs.PlanReadings as months
 use Rattle.measures.proofs.PlanRows as rows
 use Rattle.measures.proofs.Plans as plans
 use Rattle.measures.proofs.Readings as readings
+use Rattle.measures.specs.Magnitudes.{boundIn}
 use Rattle.measures.specs.Ready.{PlanReady}
+use Rattle.measures.specs.Spans.{tableOf}
 use borrow.Author.Needs.{needs}
-use mathlib.Core.Path.{_≡_, refl, sym}
+use lib.IntN.{pos}
+use mathlib.Core.Path.{_∙_, ap, refl, sym}
 use native.Mathlib.Omega.{arith}
 use Prim.Native.Nat.{ℕ, _<_}
 use borrow.Fn.Kinds.{In}
@@ -16,17 +19,18 @@ use Rattle.measures.proofs.plan.measure_plan.Reads as measure-plan
 use Rattle.measures.proofs.plan.measure_plan.Kinds as measure-plan-kinds
 use Rattle.measures.proofs.plan.+measure_plan.Lts-measure_plan as measure-plan-lts
 use Rattle.integers.proofs.later.Reads as later-reads
-use Rattle.measures.proofs.magnitude.operand.Reads as operand-reads
-use Rattle.measures.proofs.magnitude.test_small.Reads as test-small-reads
 use Rattle.measures.proofs.node.delay.Reads as delay-reads
 use Rattle.measures.proofs.node.is_transfer.Reads as is-transfer-reads
+use Rattle.measures.proofs.node.months.Reads as months-reads
 use Rattle.measures.proofs.node.plan_kind.Reads as plan-kind-reads
+use Rattle.measures.proofs.plan.amount_of.Reads as amount-of-reads
 use Rattle.measures.proofs.plan.of_both.Reads as of-both-reads
 use Rattle.measures.proofs.plan.of_later.Reads as of-later-reads
 use Rattle.measures.proofs.plan.of_nothing.Reads as of-nothing-reads
 use Rattle.measures.proofs.plan.of_scale.Reads as of-scale-reads
 use Rattle.measures.proofs.plan.of_transfer.Reads as of-transfer-reads
 use Rattle.measures.proofs.plan.of_within.Reads as of-within-reads
+use Rattle.measures.proofs.plan.test_of.Reads as test-of-reads
 use Rattle.measures.proofs.reads.window_of.Reads as window-of-reads
 use Rattle.measures.proofs.rows.read_rows.Reads as read-rows-reads
 use Rattle.nodes.proofs.link.Reads as link-reads
@@ -47,7 +51,7 @@ measure-plan-below t = and
     measure-plan.Pre
 
 abbrev measure-plan-calls : ℕ → measure-plan-lts.Claims
-measure-plan-calls t = (plan-kind-reads.Asked, plan-kind-reads.Learnt, of-nothing-reads.Asked, of-nothing-reads.Learnt, of-transfer-reads.Asked, of-transfer-reads.Learnt, link-reads.Asked, link-reads.Learnt, window-of-reads.Asked, window-of-reads.Learnt, read-rows-reads.Asked, read-rows-reads.Learnt, operand-reads.Asked, operand-reads.Learnt, is-transfer-reads.Asked, is-transfer-reads.Learnt, of-scale-reads.Asked, of-scale-reads.Learnt, measure-plan-below t, measure-plan.Post, delay-reads.Asked, delay-reads.Learnt, later-reads.Asked, later-reads.Learnt, of-later-reads.Asked, of-later-reads.Learnt, of-both-reads.Asked, of-both-reads.Learnt, test-small-reads.Asked, test-small-reads.Learnt, of-within-reads.Asked, of-within-reads.Learnt)
+measure-plan-calls t = (plan-kind-reads.Asked, plan-kind-reads.Learnt, of-nothing-reads.Asked, of-nothing-reads.Learnt, of-transfer-reads.Asked, of-transfer-reads.Learnt, link-reads.Asked, link-reads.Learnt, window-of-reads.Asked, window-of-reads.Learnt, read-rows-reads.Asked, read-rows-reads.Learnt, amount-of-reads.Asked, amount-of-reads.Learnt, is-transfer-reads.Asked, is-transfer-reads.Learnt, of-scale-reads.Asked, of-scale-reads.Learnt, measure-plan-below t, measure-plan.Post, delay-reads.Asked, delay-reads.Learnt, later-reads.Asked, later-reads.Learnt, months-reads.Asked, months-reads.Learnt, of-later-reads.Asked, of-later-reads.Learnt, of-both-reads.Asked, of-both-reads.Learnt, test-of-reads.Asked, test-of-reads.Learnt, of-within-reads.Asked, of-within-reads.Learnt)
 
 measure-plan-plan-kind-requires : (t : ℕ) → measure-plan-lts.Need-plan-kind-requires (measure-plan-calls t) (measure-plan-at t) measure-plan.Post
 measure-plan-plan-kind-requires t c κs = plans.plan-room (c .pre .1 .0)
@@ -59,35 +63,37 @@ measure-plan-link-requires t c κs =
     let q = c .enum-told3 .given .1 in
     (plans.plan-room h, omega arith, plans.scale-ready h k q .1)
 
-measure-plan-add-read-rows : (t : ℕ) → measure-plan-lts.Need-add-read-rows (measure-plan-calls t) (measure-plan-at t) measure-plan.Post
-measure-plan-add-read-rows t c =
-    let h = c .before .before .before .before .pre .1 .0 in
-    omega (arith, plans.plan-room h)
-
 measure-plan-window-of-requires : (t : ℕ) → measure-plan-lts.Need-window-of-requires (measure-plan-calls t) (measure-plan-at t) measure-plan.Post
 measure-plan-window-of-requires t c κs =
     let m = c .before .before .before .before .pre .1 .1 in
     months.reach-here m
 
+measure-plan-add-read-rows : (t : ℕ) → measure-plan-lts.Need-add-read-rows (measure-plan-calls t) (measure-plan-at t) measure-plan.Post
+measure-plan-add-read-rows t c =
+    let h = c .before .before .before .before .before .pre .1 .0 in
+    omega (arith, plans.plan-room h)
+
 measure-plan-read-rows-requires : (t : ℕ) → measure-plan-lts.Need-read-rows-requires (measure-plan-calls t) (measure-plan-at t) measure-plan.Post
 measure-plan-read-rows-requires t c κs =
     let h = c .before .before .before .before .before .pre .1 .0 in
+    let b = c .before .before .before .before .before .pre .1 .2 in
     let k = c .before .before .before .before .plan-kind .ensures in
     let q = c .before .before .enum-told3 .given .1 in
-    rows.scale-rows h k (c .before .link .ensures) q
+    let r = rows.scale-rows h k (c .before .link .ensures) q in
+    (r .0, r .1, b)
 
-measure-plan-add-operand : (t : ℕ) → measure-plan-lts.Need-add-operand (measure-plan-calls t) (measure-plan-at t) measure-plan.Post
-measure-plan-add-operand t c =
+measure-plan-add-amount-of : (t : ℕ) → measure-plan-lts.Need-add-amount-of (measure-plan-calls t) (measure-plan-at t) measure-plan.Post
+measure-plan-add-amount-of t c =
     let h = c .before .before .before .before .before .before .pre .1 .0 in
     omega (arith, plans.plan-room h)
 
-measure-plan-operand-requires : (t : ℕ) → measure-plan-lts.Need-operand-requires (measure-plan-calls t) (measure-plan-at t) measure-plan.Post
-measure-plan-operand-requires t c κs =
+measure-plan-amount-of-requires : (t : ℕ) → measure-plan-lts.Need-amount-of-requires (measure-plan-calls t) (measure-plan-at t) measure-plan.Post
+measure-plan-amount-of-requires t c κs =
     let h = c .before .before .before .before .before .before .pre .1 .0 in
     let b = c .before .before .before .before .before .before .pre .1 .2 in
     let k = c .before .before .before .before .before .plan-kind .ensures in
     let q = c .before .before .before .enum-told3 .given .1 in
-    (plans.scale-ready h k q .0, b)
+    (plans.scale-ready h k q .0, b, rows.scale-summed h k (c .before .before .link .ensures) _ (c .read-rows .ensures .2) q)
 
 measure-plan-is-transfer-requires : (t : ℕ) → measure-plan-lts.Need-is-transfer-requires (measure-plan-calls t) (measure-plan-at t) measure-plan.Post
 measure-plan-is-transfer-requires t c κs =
@@ -95,6 +101,15 @@ measure-plan-is-transfer-requires t c κs =
     let k = c .before .before .before .before .before .before .plan-kind .ensures in
     let q = c .before .before .before .before .enum-told3 .given .1 in
     rw (c .before .before .before .link .ensures) (plans.plan-room (plans.scale-ready h k q .2))
+
+measure-plan-of-scale-requires : (t : ℕ) → measure-plan-lts.Need-of-scale-requires (measure-plan-calls t) (measure-plan-at t) measure-plan.Post
+measure-plan-of-scale-requires t c κs =
+    let h = c .before .before .before .before .before .before .before .before .before .before .pre .1 .0 in
+    let k = c .before .before .before .before .before .before .before .before .before .plan-kind .ensures in
+    let q = c .before .before .before .before .before .before .before .enum-told3 .given .1 in
+    let a = c .before .before .before .before .before .before .before .before .before .before .args in
+    let r : PlanReady (a .left - 1) (a .nodes .now) (c .before .before .before .before .before .before .link .result) = rw (c .before .before .before .before .before .before .link .ensures) (plans.scale-ready h k q .2) in
+    laws.measures-addable (tableOf (a .span)) 0 0 (boundIn (a .bounds .now)) r (laws.measures-given _ _ _ _ (laws.transfer-is r refl (c .before .before .is-transfer .ensures (c .before .if1 .taken))) (c .of-transfer2 .ensures _ _ _ _ _ _))
 
 measure-plan-returns : (t : ℕ) → measure-plan-lts.Need-returns (measure-plan-calls t) (measure-plan-at t) measure-plan.Post
 measure-plan-returns t c =
@@ -107,7 +122,7 @@ measure-plan-returns t c =
     let l = rows.scale-latest h k (c .before .before .before .before .before .before .before .link .ensures) (c .before .before .before .before .before .read-rows .ensures .0) q in
     let w = rows.scale-window h k (c .before .before .before .before .before .before .before .link .ensures) m (c .before .before .before .before .before .before .window-of .ensures) (c .before .before .before .before .before .read-rows .ensures .1) q in
     let x = laws.measures-given _ _ _ _ (laws.transfer-is r refl (c .before .before .before .is-transfer .ensures (c .before .before .if1 .taken))) (c .before .of-transfer2 .ensures _ _ _ _ _ _) in
-    laws.measures-given _ _ _ _ (laws.scale-is h k q (c .before .before .before .before .before .before .before .link .ensures)) (c .of-scale .ensures _ _ _ _ _ _ l w (c .before .before .before .before .operand .ensures) x)
+    laws.measures-given _ _ _ _ (laws.scale-is h k q (c .before .before .before .before .before .before .before .link .ensures)) (c .of-scale .ensures _ _ _ _ _ _ l w (c .before .before .before .before .amount-of .ensures) x)
 
 measure-plan-sub-measure-plan : (t : ℕ) → measure-plan-lts.Need-sub-measure-plan (measure-plan-calls t) (measure-plan-at t) measure-plan.Post
 measure-plan-sub-measure-plan t c =
@@ -122,6 +137,15 @@ measure-plan-measure-plan-requires t c κs =
     let k = c .before .before .before .before .before .before .before .before .plan-kind .ensures in
     let q = c .before .before .before .before .before .before .enum-told3 .given .1 in
     (omega (arith, plans.plan-some h), rw (c .before .before .before .before .before .link .ensures) (plans.scale-ready h k q .2, months.reach-down m (plans.plan-some h), b))
+
+measure-plan-of-scale-requires-2 : (t : ℕ) → measure-plan-lts.Need-of-scale-requires-2 (measure-plan-calls t) (measure-plan-at t) measure-plan.Post
+measure-plan-of-scale-requires-2 t c κs =
+    let h = c .before .before .before .before .before .before .before .before .before .before .pre .1 .0 in
+    let k = c .before .before .before .before .before .before .before .before .before .plan-kind .ensures in
+    let q = c .before .before .before .before .before .before .before .enum-told3 .given .1 in
+    let a = c .before .before .before .before .before .before .before .before .before .before .args in
+    let r : PlanReady (a .left - 1) (a .nodes .now) (c .before .before .before .before .before .before .link .result) = rw (c .before .before .before .before .before .before .link .ensures) (plans.scale-ready h k q .2) in
+    laws.measures-addable _ _ _ _ r (c .measure-plan .ensures)
 
 measure-plan-delay-requires : (t : ℕ) → measure-plan-lts.Need-delay-requires (measure-plan-calls t) (measure-plan-at t) measure-plan.Post
 measure-plan-delay-requires t c κs =
@@ -165,13 +189,19 @@ measure-plan-measure-plan-requires-2 t c κs =
     let r = months.reach-later m (plans.plan-some h) (c .before .before .delay .ensures) d (c .before .later .ensures) (c .later2 .ensures) in
     (omega (arith, plans.plan-some h), (plans.later-ready h k q .1, r, b))
 
+measure-plan-months-requires : (t : ℕ) → measure-plan-lts.Need-months-requires (measure-plan-calls t) (measure-plan-at t) measure-plan.Post
+measure-plan-months-requires t c κs =
+    let h = c .before .before .before .before .before .before .before .pre .1 .0 in
+    plans.plan-room h
+
 measure-plan-of-later-requires : (t : ℕ) → measure-plan-lts.Need-of-later-requires (measure-plan-calls t) (measure-plan-at t) measure-plan.Post
 measure-plan-of-later-requires t c κs =
-    let h = c .before .before .before .before .before .before .before .pre .1 .0 in
-    let k = c .before .before .before .before .before .before .plan-kind .ensures in
-    let q = c .before .before .before .before .enum-told4 .given .1 in
+    let h = c .before .before .before .before .before .before .before .before .pre .1 .0 in
+    let k = c .before .before .before .before .before .before .before .plan-kind .ensures in
+    let q = c .before .before .before .before .before .enum-told4 .given .1 in
     let r = plans.later-ready h k q in
-    (lengths.few (c .before .before .before .delay .ensures) (omega (arith, r .0)), laws.measures-addable _ _ _ _ (r .1) (c .measure-plan2 .ensures))
+    let u = laws.measures-addable _ _ _ _ (r .1) (c .before .measure-plan2 .ensures) in
+    (omega (arith, r .0, c .months .ensures), u, laws.measures-first _ _ _ _ u (c .before .measure-plan2 .ensures))
 
 measure-plan-link-requires-2 : (t : ℕ) → measure-plan-lts.Need-link-requires-2 (measure-plan-calls t) (measure-plan-at t) measure-plan.Post
 measure-plan-link-requires-2 t c κs =
@@ -257,11 +287,6 @@ measure-plan-link-requires-4 t c κs =
     let q = c .before .before .before .before .enum-told6 .given .1 in
     (plans.plan-room h, omega arith, plans.within-ready h k q .3 .0)
 
-measure-plan-add-read-rows-2 : (t : ℕ) → measure-plan-lts.Need-add-read-rows-2 (measure-plan-calls t) (measure-plan-at t) measure-plan.Post
-measure-plan-add-read-rows-2 t c =
-    let h = c .before .before .before .before .before .before .before .before .pre .1 .0 in
-    omega (arith, plans.plan-room h)
-
 measure-plan-window-of-requires-2 : (t : ℕ) → measure-plan-lts.Need-window-of-requires-2 (measure-plan-calls t) (measure-plan-at t) measure-plan.Post
 measure-plan-window-of-requires-2 t c κs =
     let h = c .before .before .before .before .before .before .before .before .pre .1 .0 in
@@ -271,25 +296,32 @@ measure-plan-window-of-requires-2 t c κs =
     let d = plans.within-ready h k q .0 in
     months.reach-here (months.reach-wait m (plans.plan-some h) (c .before .before .before .before .delay2 .ensures) d (c .before .before .before .later3 .ensures) (c .before .before .later4 .ensures))
 
+measure-plan-add-read-rows-2 : (t : ℕ) → measure-plan-lts.Need-add-read-rows-2 (measure-plan-calls t) (measure-plan-at t) measure-plan.Post
+measure-plan-add-read-rows-2 t c =
+    let h = c .before .before .before .before .before .before .before .before .before .pre .1 .0 in
+    omega (arith, plans.plan-room h)
+
 measure-plan-read-rows-requires-2 : (t : ℕ) → measure-plan-lts.Need-read-rows-requires-2 (measure-plan-calls t) (measure-plan-at t) measure-plan.Post
 measure-plan-read-rows-requires-2 t c κs =
     let h = c .before .before .before .before .before .before .before .before .before .pre .1 .0 in
+    let b = c .before .before .before .before .before .before .before .before .before .pre .1 .2 in
     let k = c .before .before .before .before .before .before .before .before .plan-kind .ensures in
     let q = c .before .before .before .before .before .before .enum-told6 .given .1 in
-    rows.within-rows h k (c .before .before .link3 .ensures) q
+    let r = rows.within-rows h k (c .before .before .link3 .ensures) q in
+    (r .0, r .1, b)
 
-measure-plan-add-test-small : (t : ℕ) → measure-plan-lts.Need-add-test-small (measure-plan-calls t) (measure-plan-at t) measure-plan.Post
-measure-plan-add-test-small t c =
+measure-plan-add-test-of : (t : ℕ) → measure-plan-lts.Need-add-test-of (measure-plan-calls t) (measure-plan-at t) measure-plan.Post
+measure-plan-add-test-of t c =
     let h = c .before .before .before .before .before .before .before .before .before .before .pre .1 .0 in
     omega (arith, plans.plan-room h)
 
-measure-plan-test-small-requires : (t : ℕ) → measure-plan-lts.Need-test-small-requires (measure-plan-calls t) (measure-plan-at t) measure-plan.Post
-measure-plan-test-small-requires t c κs =
+measure-plan-test-of-requires : (t : ℕ) → measure-plan-lts.Need-test-of-requires (measure-plan-calls t) (measure-plan-at t) measure-plan.Post
+measure-plan-test-of-requires t c κs =
     let h = c .before .before .before .before .before .before .before .before .before .before .pre .1 .0 in
     let b = c .before .before .before .before .before .before .before .before .before .before .pre .1 .2 in
     let k = c .before .before .before .before .before .before .before .before .before .plan-kind .ensures in
     let q = c .before .before .before .before .before .before .before .enum-told6 .given .1 in
-    (plans.within-ready h k q .1, b)
+    (plans.within-ready h k q .1, b, rows.within-summed h k (c .before .before .before .link3 .ensures) _ (c .read-rows2 .ensures .2) q)
 
 measure-plan-sub-measure-plan-5 : (t : ℕ) → measure-plan-lts.Need-sub-measure-plan-5 (measure-plan-calls t) (measure-plan-at t) measure-plan.Post
 measure-plan-sub-measure-plan-5 t c =
@@ -305,7 +337,7 @@ measure-plan-measure-plan-requires-5 t c κs =
     let q = c .before .before .before .before .before .before .before .before .enum-told6 .given .1 in
     let d = plans.within-ready h k q .0 in
     let r = months.reach-wait m (plans.plan-some h) (c .before .before .before .before .before .before .before .delay2 .ensures) d (c .before .before .before .before .before .before .later3 .ensures) (c .before .before .before .before .before .later4 .ensures) in
-    (omega (arith, plans.plan-some h), rw (c .before .before .before .before .link3 .ensures) (plans.within-ready h k q .2 .1, r, b))
+    (omega (arith, plans.plan-some h, c .before .before .before .before .before .before .before .before .before .before .before .pre .0), rw (c .before .before .before .before .link3 .ensures) (plans.within-ready h k q .2 .1, r, b))
 
 measure-plan-sub-measure-plan-6 : (t : ℕ) → measure-plan-lts.Need-sub-measure-plan-6 (measure-plan-calls t) (measure-plan-at t) measure-plan.Post
 measure-plan-sub-measure-plan-6 t c =
@@ -323,17 +355,22 @@ measure-plan-measure-plan-requires-6 t c κs =
     let r = months.reach-later m (plans.plan-some h) (c .before .before .before .before .before .before .before .before .delay2 .ensures) d (c .before .before .before .before .before .before .before .later3 .ensures) (c .before .before .before .before .before .before .later4 .ensures) in
     (omega (arith, plans.plan-some h, c .before .before .before .before .before .before .before .before .before .before .before .before .pre .0), rw (c .before .before .before .before .link4 .ensures) (plans.within-ready h k q .3 .1, r, b))
 
+measure-plan-months-requires-2 : (t : ℕ) → measure-plan-lts.Need-months-requires-2 (measure-plan-calls t) (measure-plan-at t) measure-plan.Post
+measure-plan-months-requires-2 t c κs =
+    let h = c .before .before .before .before .before .before .before .before .before .before .before .before .before .pre .1 .0 in
+    plans.plan-room h
+
 measure-plan-of-within-requires : (t : ℕ) → measure-plan-lts.Need-of-within-requires (measure-plan-calls t) (measure-plan-at t) measure-plan.Post
 measure-plan-of-within-requires t c κs =
-    let h = c .before .before .before .before .before .before .before .before .before .before .before .before .before .pre .1 .0 in
-    let k = c .before .before .before .before .before .before .before .before .before .before .before .before .plan-kind .ensures in
-    let q = c .before .before .before .before .before .before .before .before .before .before .enum-told6 .given .1 in
-    let a = c .before .before .before .before .before .before .before .before .before .before .before .before .before .args in
-    let x : PlanReady (a .left - 1) (a .nodes .now) (c .before .before .before .before .before .before .link3 .result) = rw (c .before .before .before .before .before .before .link3 .ensures) (plans.within-ready h k q .2 .1) in
-    let y : PlanReady (a .left - 1) (a .nodes .now) (c .before .before .before .before .before .link4 .result) = rw (c .before .before .before .before .before .link4 .ensures) (plans.within-ready h k q .3 .1) in (
-      lengths.few (c .before .before .before .before .before .before .before .before .before .delay2 .ensures) (omega (arith, plans.within-ready h k q .0)),
-      laws.measures-addable _ _ _ _ x (c .before .measure-plan5 .ensures),
-      laws.measures-addable _ _ _ _ y (c .measure-plan6 .ensures),
+    let h = c .before .before .before .before .before .before .before .before .before .before .before .before .before .before .pre .1 .0 in
+    let k = c .before .before .before .before .before .before .before .before .before .before .before .before .before .plan-kind .ensures in
+    let q = c .before .before .before .before .before .before .before .before .before .before .before .enum-told6 .given .1 in
+    let a = c .before .before .before .before .before .before .before .before .before .before .before .before .before .before .args in
+    let x : PlanReady (a .left - 1) (a .nodes .now) (c .before .before .before .before .before .before .before .link3 .result) = rw (c .before .before .before .before .before .before .before .link3 .ensures) (plans.within-ready h k q .2 .1) in
+    let y : PlanReady (a .left - 1) (a .nodes .now) (c .before .before .before .before .before .before .link4 .result) = rw (c .before .before .before .before .before .before .link4 .ensures) (plans.within-ready h k q .3 .1) in (
+      omega (arith, plans.within-ready h k q .0, c .months2 .ensures),
+      laws.measures-addable _ _ _ _ x (c .before .before .measure-plan5 .ensures),
+      laws.measures-addable _ _ _ _ y (c .before .measure-plan6 .ensures),
     )
 
 measure-plan-returns-2 : (t : ℕ) → measure-plan-lts.Need-returns-2 (measure-plan-calls t) (measure-plan-at t) measure-plan.Post
@@ -358,17 +395,18 @@ measure-plan-returns-4 t c =
     let q = c .before .before .before .before .before .before .before .before .enum-told3 .given .1 in
     let l = rows.scale-latest h k (c .before .before .before .before .before .before .before .link .ensures) (c .before .before .before .before .before .read-rows .ensures .0) q in
     let w = rows.scale-window h k (c .before .before .before .before .before .before .before .link .ensures) m (c .before .before .before .before .before .before .window-of .ensures) (c .before .before .before .before .before .read-rows .ensures .1) q in
-    laws.measures-given _ _ _ _ (laws.scale-is h k q (c .before .before .before .before .before .before .before .link .ensures)) (c .of-scale2 .ensures _ _ _ _ _ _ l w (c .before .before .before .before .operand .ensures) (c .before .measure-plan .ensures))
+    laws.measures-given _ _ _ _ (laws.scale-is h k q (c .before .before .before .before .before .before .before .link .ensures)) (c .of-scale2 .ensures _ _ _ _ _ _ l w (c .before .before .before .before .amount-of .ensures) (c .before .measure-plan .ensures))
 
 measure-plan-returns-5 : (t : ℕ) → measure-plan-lts.Need-returns-5 (measure-plan-calls t) (measure-plan-at t) measure-plan.Post
 measure-plan-returns-5 t c =
-    let h = c .before .before .before .before .before .before .before .before .pre .1 .0 in
-    let m = c .before .before .before .before .before .before .before .before .pre .1 .1 in
-    let k = c .before .before .before .before .before .before .before .plan-kind .ensures in
-    let q = c .before .before .before .before .before .enum-told4 .given .1 in
-    let u = readings.month-after (c .before .before .before .before .before .before .before .before .args .first .0) _ _ (m .firstFrom) (c .before .before .before .before .delay .ensures) (c .before .before .before .later .ensures) .0 in
-    let w = readings.month-after (c .before .before .before .before .before .before .before .before .args .last .0) _ _ (m .lastFrom) (c .before .before .before .before .delay .ensures) (c .before .before .later2 .ensures) .0 in
-    laws.measures-given _ _ _ _ (laws.later-is h k q) (c .of-later .ensures _ _ _ _ _ _ (c .before .before .before .before .delay .ensures) (laws.months-given _ _ _ _ u w (c .before .measure-plan2 .ensures)))
+    let h = c .before .before .before .before .before .before .before .before .before .pre .1 .0 in
+    let m = c .before .before .before .before .before .before .before .before .before .pre .1 .1 in
+    let k = c .before .before .before .before .before .before .before .before .plan-kind .ensures in
+    let q = c .before .before .before .before .before .before .enum-told4 .given .1 in
+    let d = c .before .before .before .before .before .delay .ensures ∙ ap pos (sym (c .before .months .ensures)) in
+    let u = readings.month-after (c .before .before .before .before .before .before .before .before .before .args .first .0) _ _ (m .firstFrom) d (c .before .before .before .before .later .ensures) .0 in
+    let w = readings.month-after (c .before .before .before .before .before .before .before .before .before .args .last .0) _ _ (m .lastFrom) d (c .before .before .before .later2 .ensures) .0 in
+    laws.measures-given _ _ _ _ (laws.later-is h k q (c .before .months .ensures)) (c .of-later .ensures _ _ _ _ _ (laws.months-given _ _ _ _ u w (c .before .before .measure-plan2 .ensures)))
 
 measure-plan-returns-6 : (t : ℕ) → measure-plan-lts.Need-returns-6 (measure-plan-calls t) (measure-plan-at t) measure-plan.Post
 measure-plan-returns-6 t c =
@@ -379,19 +417,19 @@ measure-plan-returns-6 t c =
 
 measure-plan-returns-7 : (t : ℕ) → measure-plan-lts.Need-returns-7 (measure-plan-calls t) (measure-plan-at t) measure-plan.Post
 measure-plan-returns-7 t c =
-    let h = c .before .before .before .before .before .before .before .before .before .before .before .before .before .before .pre .1 .0 in
-    let m = c .before .before .before .before .before .before .before .before .before .before .before .before .before .before .pre .1 .1 in
-    let k = c .before .before .before .before .before .before .before .before .before .before .before .before .before .plan-kind .ensures in
-    let q = c .before .before .before .before .before .before .before .before .before .before .before .enum-told6 .given .1 in
-    let d = plans.within-ready h k q .0 in
-    let r = months.reach-wait m (plans.plan-some h) (c .before .before .before .before .before .before .before .before .before .before .delay2 .ensures) d (c .before .before .before .before .before .before .before .before .before .later3 .ensures) (c .before .before .before .before .before .before .before .before .later4 .ensures) in
-    let u = readings.month-after (c .before .before .before .before .before .before .before .before .before .before .before .before .before .before .args .first .0) _ _ (m .firstFrom) (c .before .before .before .before .before .before .before .before .before .before .delay2 .ensures) (c .before .before .before .before .before .before .before .before .before .later3 .ensures) .0 in
-    let w = readings.month-after (c .before .before .before .before .before .before .before .before .before .before .before .before .before .before .args .last .0) _ _ (m .lastFrom) (c .before .before .before .before .before .before .before .before .before .before .delay2 .ensures) (c .before .before .before .before .before .before .before .before .later4 .ensures) .0 in
-    let l = rows.within-latest h k (c .before .before .before .before .before .before .before .link3 .ensures) (c .before .before .before .before .read-rows2 .ensures .0) q in
-    let s = rw w at (rows.within-window h k (c .before .before .before .before .before .before .before .link3 .ensures) r (c .before .before .before .before .before .window-of2 .ensures) (c .before .before .before .before .read-rows2 .ensures .1) q) in
-    let x = laws.months-given _ _ _ _ refl w (c .before .before .measure-plan5 .ensures) in
-    let y = laws.months-given _ _ _ _ u w (c .before .measure-plan6 .ensures) in
-    laws.measures-given _ _ _ _ (laws.within-is h k q (c .before .before .before .before .before .before .before .link3 .ensures) (c .before .before .before .before .before .before .link4 .ensures)) (c .of-within .ensures _ _ _ _ _ _ _ _ (c .before .before .before .before .before .before .before .before .before .before .delay2 .ensures) l s (c .before .before .before .test-small .ensures) x y)
+    let h = c .before .before .before .before .before .before .before .before .before .before .before .before .before .before .before .pre .1 .0 in
+    let m = c .before .before .before .before .before .before .before .before .before .before .before .before .before .before .before .pre .1 .1 in
+    let k = c .before .before .before .before .before .before .before .before .before .before .before .before .before .before .plan-kind .ensures in
+    let q = c .before .before .before .before .before .before .before .before .before .before .before .before .enum-told6 .given .1 in
+    let d = c .before .before .before .before .before .before .before .before .before .before .before .delay2 .ensures ∙ ap pos (sym (c .before .months2 .ensures)) in
+    let r = months.reach-wait m (plans.plan-some h) (c .before .before .before .before .before .before .before .before .before .before .before .delay2 .ensures) (plans.within-ready h k q .0) (c .before .before .before .before .before .before .before .before .before .before .later3 .ensures) (c .before .before .before .before .before .before .before .before .before .later4 .ensures) in
+    let u = readings.month-after (c .before .before .before .before .before .before .before .before .before .before .before .before .before .before .before .args .first .0) _ _ (m .firstFrom) d (c .before .before .before .before .before .before .before .before .before .before .later3 .ensures) .0 in
+    let w = readings.month-after (c .before .before .before .before .before .before .before .before .before .before .before .before .before .before .before .args .last .0) _ _ (m .lastFrom) d (c .before .before .before .before .before .before .before .before .before .later4 .ensures) .0 in
+    let l = rows.within-latest h k (c .before .before .before .before .before .before .before .before .link3 .ensures) (c .before .before .before .before .before .read-rows2 .ensures .0) q in
+    let s = rw w at (rows.within-window h k (c .before .before .before .before .before .before .before .before .link3 .ensures) r (c .before .before .before .before .before .before .window-of2 .ensures) (c .before .before .before .before .before .read-rows2 .ensures .1) q) in
+    let x = laws.months-given _ _ _ _ refl w (c .before .before .before .measure-plan5 .ensures) in
+    let y = laws.months-given _ _ _ _ u w (c .before .before .measure-plan6 .ensures) in
+    laws.measures-given _ _ _ _ (laws.within-is h k q (c .before .months2 .ensures) (c .before .before .before .before .before .before .before .before .link3 .ensures) (c .before .before .before .before .before .before .before .link4 .ensures)) (c .of-within .ensures _ _ _ _ _ _ _ l s (c .before .before .before .before .test-of .ensures) x y)
 
 measure-plan-returns-8 : (t : ℕ) → measure-plan-lts.Need-returns-8 (measure-plan-calls t) (measure-plan-at t) measure-plan.Post
 measure-plan-returns-8 t c =
@@ -410,18 +448,18 @@ measure-plan-part t =
     (λ c κs. search needs)
     (λ c. search needs)
     (measure-plan-link-requires t)
-    (measure-plan-add-read-rows t)
     (measure-plan-window-of-requires t)
+    (measure-plan-add-read-rows t)
     (measure-plan-read-rows-requires t)
-    (measure-plan-add-operand t)
-    (measure-plan-operand-requires t)
+    (measure-plan-add-amount-of t)
+    (measure-plan-amount-of-requires t)
     (measure-plan-is-transfer-requires t)
     (λ c κs. search needs)
-    (λ c κs. search needs)
+    (measure-plan-of-scale-requires t)
     (measure-plan-returns t)
     (measure-plan-sub-measure-plan t)
     (measure-plan-measure-plan-requires t)
-    (λ c κs. search needs)
+    (measure-plan-of-scale-requires-2 t)
     (λ c. search needs)
     (measure-plan-delay-requires t)
     (measure-plan-later-requires t)
@@ -429,6 +467,7 @@ measure-plan-part t =
     (measure-plan-add-measure-plan t)
     (measure-plan-sub-measure-plan-2 t)
     (measure-plan-measure-plan-requires-2 t)
+    (measure-plan-months-requires t)
     (measure-plan-of-later-requires t)
     (λ c. search needs)
     (measure-plan-link-requires-2 t)
@@ -444,15 +483,16 @@ measure-plan-part t =
     (measure-plan-later-requires-4 t)
     (measure-plan-link-requires-3 t)
     (measure-plan-link-requires-4 t)
-    (measure-plan-add-read-rows-2 t)
     (measure-plan-window-of-requires-2 t)
+    (measure-plan-add-read-rows-2 t)
     (measure-plan-read-rows-requires-2 t)
-    (measure-plan-add-test-small t)
-    (measure-plan-test-small-requires t)
+    (measure-plan-add-test-of t)
+    (measure-plan-test-of-requires t)
     (measure-plan-sub-measure-plan-5 t)
     (measure-plan-measure-plan-requires-5 t)
     (measure-plan-sub-measure-plan-6 t)
     (measure-plan-measure-plan-requires-6 t)
+    (measure-plan-months-requires-2 t)
     (measure-plan-of-within-requires t)
     (λ c. search needs)
     (λ c κs. search needs)

@@ -1,8 +1,6 @@
 use Rattle.measures.proofs.PlanMeasures as laws
 use Rattle.measures.proofs.plan.of_nothing.Statement.{statement}
 use Rattle.measures.proofs.plan.of_nothing.Tie as tie
-use Rattle.measures.proofs.plan.of_nothing.Reads as reads
-use Rattle.measures.proofs.plan.of_nothing.Lts as lts
 
 returns : tie.Need-returns
 returns c = λ t a z bound. laws.nothing-measures t a z bound

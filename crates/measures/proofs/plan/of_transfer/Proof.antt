@@ -1,8 +1,6 @@
 use Rattle.measures.proofs.PlanMeasures as laws
 use Rattle.measures.proofs.plan.of_transfer.Statement.{statement}
 use Rattle.measures.proofs.plan.of_transfer.Tie as tie
-use Rattle.measures.proofs.plan.of_transfer.Reads as reads
-use Rattle.measures.proofs.plan.of_transfer.Lts as lts
 
 returns : tie.Need-returns
 returns c = λ t a z bound p q. laws.transfer-measures t a z bound p q
