@@ -23,9 +23,9 @@ use Rattle.nodes.specs.declared.TestLetter.{TestLetter}
 use borrow.Author.Tests.{le-leb, leb-true}
 use lib.Dec.{T, leb}
 use lib.IntN.{natAbs, negsuc, pos, ℤ}
-use lib.ListN.{List·getD-eq-default, getD, length}
+use lib.ListN.{List·getD-eq-default, length}
 use lib.Signed.{leZ, leZ-yes}
-use mathlib.Core.Bool.{Bool, _&&_, cond, false, true}
+use mathlib.Core.Bool.{Bool, _&&_, cond, true}
 use mathlib.Core.List.{List, [], _∷_}
 use mathlib.Core.Path.{_∙_, _≡_, ap₂, refl}
 use mir.Syntax.{w64}

@@ -1,16 +1,16 @@
 -- A field that code reads from a row: what stands there, and 0 for one below zero.
 use Rattle.integers.proofs.Laws.{natAbs-le, natAbs-parts, sfits64}
 use Rattle.integers.proofs.Locals.{rd}
-use Rattle.integers.proofs.Solver.{_⊖_, lit, ring, sound, var, ⊝}
+use Rattle.integers.proofs.Solver.{_⊖_, lit, sound, var}
 use Rattle.integers.proofs.Tests.{lt-true}
 use Rattle.integers.specs.Bounded.{Small, amountLimit}
 use Rattle.nodes.proofs.Signed.{index-cast, index-reads}
 use Rattle.nodes.specs.Table.{natOf}
 use lib.Dec.{T}
-use lib.IntN.{_-ℤ_, natAbs, negsuc, negℤ, pos, ℤ}
+use lib.IntN.{_-ℤ_, natAbs, negsuc, pos, ℤ}
 use lib.Signed.{ltZ, nonNeg}
 use mathlib.Core.Bool.{false, true, true≢false}
-use mathlib.Core.Path.{_∙_, _≡_, ap, refl}
+use mathlib.Core.Path.{_∙_, _≡_, refl}
 use mir.Facts.{toZ-ofZ}
 use mir.Syntax.{w64}
 use mir.Val.{Fits, SFits}
@@ -50,33 +50,8 @@ module _ {x y : ℤ} (f : SFits w64 x) (e : x ≡ y) where
 
 -- ---- a number taken from 0
 
-zero-less : (h : ℤ) → pos 0 -ℤ h ≡ negℤ h
-zero-less h = ring (lit 0 ⊖ var h) (⊝ (var h)) (omega arith)
-
 module _ {h : ℤ} (s : Small h) (f : SFits w64 h) where
   pub back-here : SFits w64 (pos 0 -ℤ h)
   back-here =
       let p = sound (lit 0 ⊖ var h) in
       sfits64 amountLimit (natAbs-le (pos 0 -ℤ h) amountLimit (omega (arith, p, natAbs-parts h, s .small)) (omega (arith, p, natAbs-parts h, s .small))) tt
-
-  pub back-fits : SFits w64 (pos 0 -ℤ rd h)
-  back-fits = rw (toZ-ofZ f) back-here
-
-  pub back-reads : rd (pos 0 -ℤ rd h) ≡ negℤ h
-  back-reads = toZ-ofZ back-fits ∙ ap (λ z. pos 0 -ℤ z) (toZ-ofZ f) ∙ zero-less h
-
-distance-below : (y : ℤ) → ltZ y (pos 0) ≡ true → negℤ y ≡ pos (natAbs y)
-distance-below (pos n) e = absurd (omega (arith, lt-true (pos n) (pos 0) e))
-distance-below (negsuc n) e = refl
-
-distance-above : (y : ℤ) → T (nonNeg y) → y ≡ pos (natAbs y)
-distance-above (pos n) h = refl
-distance-above (negsuc n) h = absurd h
-
--- x is a local that reads the field y: its distance from zero
-module _ {x y : ℤ} (f : SFits w64 x) (e : x ≡ y) where
-  pub field-distance-below : Small x → ltZ (rd x) (pos 0) ≡ true → rd (pos 0 -ℤ rd x) ≡ pos (natAbs y)
-  field-distance-below s t = back-reads s f ∙ ap negℤ e ∙ distance-below y (rw (field-reads f e) at t)
-
-  pub field-distance-above : ltZ (rd x) (pos 0) ≡ false → rd x ≡ pos (natAbs y)
-  field-distance-above t = field-reads f e ∙ distance-above y (above f e t)

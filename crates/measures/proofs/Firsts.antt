@@ -11,7 +11,7 @@ use lib.Dec.{eqb, leb}
 use lib.IntN.{negsuc, pos, ℤ}
 use lib.Signed.{leZ}
 use mathlib.Core.Bool.{Bool, cond, false, true}
-use mathlib.Core.Path.{_∙_, _≡_, ap, refl, sym}
+use mathlib.Core.Path.{_∙_, _≡_, refl}
 use native.Mathlib.Omega.{arith}
 
 -- ---- no first is later than the length

@@ -10,7 +10,7 @@ use Rattle.measures.specs.Rows.{isIndex, rowLatest, rowsLatest, rowsOf}
 use Rattle.measures.specs.Timing.{latestMonth}
 use Rattle.nodes.specs.Found.{amountAt, offsetOf, testAt}
 use Rattle.nodes.specs.Table.{natOf, slotAt}
-use lib.IntN.{pos, ℤ}
+use lib.IntN.{ℤ}
 use lib.Signed.{leZ}
 use mathlib.Core.Bool.{Bool, cond, false, true}
 use mathlib.Core.List.{List}

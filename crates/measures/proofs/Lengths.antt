@@ -1,45 +1,20 @@
--- The greater of two lengths, and that no length leaves the months that code adds.
-use Prim.Native.Nat.{_*_, _+_, _-_, _≤_, max, suc, zero, ℕ}
-use Rattle.integers.proofs.Locals.{rd}
+-- No length leaves the months that code adds.
+use Prim.Native.Nat.{_*_, _+_, _≤_, suc, zero, ℕ}
 use Rattle.integers.specs.Bounded.{Small}
 use Rattle.language.specs.Limits.{maxMonths, maxNodes}
 use Rattle.language.specs.Rules.Measures.{lengthOf}
 use Rattle.language.specs.Text.Form.{fieldsOf, filledInForm}
 use Rattle.language.specs.Text.Trees.{Amount, Plan, Test}
-use Rattle.measures.proofs.Plans.{plan-is}
 use Rattle.measures.specs.Ready.{PlanReady}
 use Rattle.nodes.specs.Found.{amountAt, offsetOf, planAt, planBy, testAt}
 use Rattle.nodes.specs.Letters.{planLetter}
 use Rattle.nodes.specs.Table.{linkAt, natOf, slotAt}
 use Rattle.nodes.specs.declared.PlanLetter.the-variants.{Both, Later, NoPlan, Nothing, Scale, Transfer, Within}
 use Rattle.nodes.specs.declared.PlanLetter.{PlanLetter}
-use borrow.Author.Tests.{ltb-false, ltb-true}
-use lib.IntN.{_+ℤ_, pos, ℤ}
-use lib.Signed.{ltZ}
-use mathlib.Core.Bool.{false, true}
+use lib.IntN.{pos, ℤ}
 use mathlib.Core.List.{List}
-use mathlib.Core.Path.{_∙_, _≡_, ap, ap₂}
-use mir.Facts.{toZ-ofZ}
-use mir.Syntax.{w64}
-use mir.Val.{SFits}
+use mathlib.Core.Path.{_≡_}
 use native.Mathlib.Omega.{arith}
-
--- ---- the greater of two months
-
-module _ {a b : ℤ} (f : SFits w64 a) (g : SFits w64 b) {m n : ℕ} (ea : a ≡ pos m) (eb : b ≡ pos n) where
-  pub longer-second : ltZ (rd a) (rd b) ≡ true → b ≡ pos (max m n)
-  longer-second t =
-      let u : ltZ (pos m) (pos n) ≡ true = rw (toZ-ofZ f, toZ-ofZ g, ea, eb) at t in
-      let e : n ≡ max m n = omega (arith, ltb-true m n u) in
-      eb ∙ ap pos e
-
-  pub longer-first : ltZ (rd a) (rd b) ≡ false → a ≡ pos (max m n)
-  longer-first t =
-      let u : ltZ (pos m) (pos n) ≡ false = rw (toZ-ofZ f, toZ-ofZ g, ea, eb) at t in
-      let e : m ≡ max m n = omega (arith, ltb-false m n u) in
-      ea ∙ ap pos e
-
--- ---- bounds
 
 length-of : (l : PlanLetter) (d : ℕ) (p q : ℤ) (a : Amount ℤ) (t : Test ℤ) (x y z : Plan ℕ) (n : ℕ)
     → (fieldsOf filledInForm x → lengthOf x ≤ n) → (fieldsOf filledInForm y → lengthOf y ≤ n) → (fieldsOf filledInForm z → lengthOf z ≤ n)

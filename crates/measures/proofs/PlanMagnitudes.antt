@@ -1,26 +1,16 @@
 -- A plan is small where its magnitude, as one number, is within the limit.
-use Prim.Native.Nat.{_*_, _+_, _-_, _≤_, max, ℕ}
+use Prim.Native.Nat.{_≤_, ℕ}
 use Rattle.language.proofs.Truth.{and-e}
-use Rattle.language.specs.Limits.{maxAmount, maxNodes}
-use Rattle.language.specs.Rules.Measures.{magnitudeOf, magnitudeOfAmount}
+use Rattle.language.specs.Limits.{maxAmount}
+use Rattle.language.specs.Rules.Measures.{magnitudeOf}
 use Rattle.language.specs.Rules.Tests.{amountSmall, planSmall, testSmall}
 use Rattle.language.specs.Text.Trees.{Plan, both, later, nothing, scale, transfer, within}
-use Rattle.measures.proofs.AmountMagnitudes.{amount-limit}
-use Rattle.measures.proofs.Joins.{again, joined-measured, kept-measured, third, within-measured}
-use Rattle.measures.proofs.Plans.{plan-is}
-use Rattle.measures.specs.Magnitudes.{beyond, boundIn, joined, measuredAmount, measuredPlan}
-use Rattle.measures.specs.Ready.{PlanReady}
-use Rattle.nodes.specs.Found.{amountAt, offsetOf, planAt, testAt}
-use Rattle.nodes.specs.Letters.{planLetter}
-use Rattle.nodes.specs.Table.{linkAt, natOf, slotAt}
-use Rattle.nodes.specs.declared.PlanLetter.the-variants as plan
-use Rattle.nodes.specs.declared.PlanLetter.{PlanLetter}
+use Rattle.measures.proofs.Joins.{kept-measured, third, within-measured}
+use Rattle.measures.specs.Magnitudes.{beyond, measuredPlan}
 use borrow.Author.Tests.{leb-true}
 use lib.Dec.{leb}
-use lib.IntN.{ℤ}
-use mathlib.Core.Bool.{Bool, false, true}
-use mathlib.Core.List.{List}
-use mathlib.Core.Path.{_≡_, refl}
+use mathlib.Core.Bool.{true}
+use mathlib.Core.Path.{_≡_}
 
 module _ (bound : ℕ → ℕ) where
   pub plan-limit : (x : Plan ℕ) → planSmall bound x ≡ true → magnitudeOf bound x ≤ maxAmount

@@ -1,23 +1,12 @@
 -- The months that a walk of a plan carries.
-use Prim.Native.Nat.{_+_, _-_, _<_, _≤_, ℕ}
+use Prim.Native.Nat.{_-_, _<_, _≤_, ℕ}
 use Rattle.integers.specs.declared.Month.{Month}
-use Rattle.language.specs.Limits.{maxMonths, maxNodes}
-use Rattle.language.specs.Rules.Table.{Table}
-use Rattle.language.specs.Rules.Tests.{amountReads, planReads, testReads}
-use Rattle.measures.proofs.Plans.{plan-is}
+use Rattle.language.specs.Limits.{maxMonths}
 use Rattle.measures.proofs.Readings.{month-after}
-use Rattle.measures.specs.Ready.{PlanReady}
 use Rattle.measures.specs.Spans.{InReach}
 use Rattle.measures.specs.declared.reads.Reach.{Reach}
-use Rattle.nodes.specs.Found.{amountAt, offsetOf, planAt, testAt}
-use Rattle.nodes.specs.Letters.{planLetter}
-use Rattle.nodes.specs.Table.{linkAt, natOf, slotAt}
-use Rattle.nodes.specs.declared.PlanLetter.the-variants as plan
-use Rattle.nodes.specs.declared.PlanLetter.{PlanLetter}
 use lib.IntN.{_+ℤ_, pos, ℤ}
-use mathlib.Core.Bool.{Bool, _&&_, false, true}
-use mathlib.Core.List.{List}
-use mathlib.Core.Path.{_∙_, _≡_, ap₂, refl}
+use mathlib.Core.Path.{_≡_}
 use native.Mathlib.Omega.{arith}
 
 module _ {left : ℕ} {first last : Month} {span : Reach} (h : InReach left first last span) where

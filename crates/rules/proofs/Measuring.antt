@@ -6,7 +6,7 @@ use lib.IntN.{_+ℤ_, natAbs, negsuc, pos, ℤ}
 use lib.Signed.{ltZ, nonNeg}
 use mathlib.Core.Bool.{Bool, false, true}
 use mathlib.Core.List.{List, []}
-use mathlib.Core.Path.{_∙_, _≡_, ap, refl, sym}
+use mathlib.Core.Path.{_∙_, _≡_, refl, sym}
 use mir.Facts.{toZ-pos}
 use mir.Syntax.{w64}
 use mir.Val.{SFits, toZ}
