@@ -8,6 +8,7 @@ ghost use Rattle.measures.specs.Timing.{FewMonths, firstMonth, latestMon
 // What stands for a plan that never pays: a month that no plan reaches.
 pub const NEVER: u64 = 1_000_000;
 
+// The greater of two months.
 pub fn later_of(a: u64, b: u64) -> u64
     ensures { λ r. ⌜ r ≡ max a b ⌝ }
 {
@@ -17,6 +18,7 @@ pub fn later_of(a: u64, b: u64) -> u64
     a
 }
 
+// The lesser of two months.
 pub fn sooner_of(a: u64, b: u64) -> u64
     ensures { λ r. ⌜ r ≡ min a b ⌝ }
 {

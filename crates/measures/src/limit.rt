@@ -11,6 +11,7 @@ const LIMIT: u64 = 9_000_000_000_000;
 // What stands for every magnitude that is beyond the limit.
 pub const BEYOND: u64 = 9_000_000_000_001;
 
+// Whether a magnitude is within the limit.
 pub fn is_within(a: u64) -> bool
     ensures { λ r. ⌜ r ≡ leb a maxAmount ⌝ }
 {
@@ -27,6 +28,7 @@ pub fn capped(a: u64) -> u64
     BEYOND
 }
 
+// Two magnitudes added.
 pub fn sum_of(a: u64, b: u64) -> u64
     requires { ⌜ (a ≤ beyond) × (b ≤ beyond) ⌝ }
     ensures { λ r. ⌜ r ≡ joined _+_ a b ⌝ }
@@ -57,6 +59,7 @@ pub fn product_of(a: u64, b: u64) -> u64
     a * b
 }
 
+// The greater of two magnitudes.
 fn greater_of(a: u64, b: u64) -> u64
     requires { ⌜ (a ≤ beyond) × (b ≤ beyond) ⌝ }
     ensures { λ r. ⌜ r ≡ joined max a b ⌝ }

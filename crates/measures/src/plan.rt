@@ -1,5 +1,6 @@
 // What the rules ask of a plan, in one walk: its length, its first month, whether all of it is known in time, its reads, its magnitude.
 ghost use mathlib.Core.Path.{_≡_};
+ghost use mathlib.Core.Bool.{true};
 ghost use Prim.Native.Nat.{_+_, _≤_, ℕ};
 ghost use lib.IntN.{ℤ};
 ghost use Rattle.language.specs.Limits.{maxAmount, maxMonths};
@@ -13,8 +14,7 @@ ghost use Rattle.measures.specs.Magnitudes.{InBounds, boundIn, measuredA
 ghost use Rattle.measures.specs.PlanMeasures.{Addable, MeasuresOf};
 ghost use Rattle.measures.specs.Ready.{AmountReady, PlanReady, TestReady};
 ghost use Rattle.measures.specs.Spans.{InReach, tableOf};
-ghost use Rattle.measures.specs.Timing.{latestMonth};
-ghost use mathlib.Core.Bool.{true};
+ghost use Rattle.measures.specs.Timing.{latestMonth, neverMonth};
 use crate::first;
 use crate::limit;
 use crate::magnitude;
@@ -26,6 +26,7 @@ use crate::rows::Rows;
 use integers::Month;
 use nodes::PlanLetter;
 
+// A plan's measures; known: all of it is known in time.
 pub struct Measures {
     pub length: u64,
     pub first: u64,
@@ -34,8 +35,9 @@ pub struct Measures {
     pub reads: bool,
 }
 
-// ---- an amount and a test, from the magnitudes of their rows summed; by a walk where that is beyond the limit
+// ---- an amount and a test, from the magnitudes of their rows summed
 
+// The magnitude of an amount: the sum, or by a walk where that is beyond the limit.
 fn amount_of(nodes: &[i64; 2560], at: usize, rows: u64, bounds: &[i64]) -> u64
     requires { ⌜ AmountReady 512 (now nodes) at × InBounds (now bounds)
         × (rows ≤ maxAmount → rows ≡ measuredAmount (boundIn (now bounds)) (amountAt offsetOf 512 (now nodes) at)) ⌝ }
@@ -47,6 +49,7 @@ fn amount_of(nodes: &[i64; 2560], at: usize, rows: u64, bounds: &[i64]) -> u64
     magnitude::amount_magnitude(nodes, at, 512, bounds)
 }
 
+// Whether a test is small: so it is where the sum is within the limit.
 fn test_of(nodes: &[i64; 2560], at: usize, rows: u64, bounds: &[i64]) -> bool
     requires { ⌜ TestReady 512 (now nodes) at × InBounds (now bounds)
         × (rows ≤ maxAmount → testSmall (boundIn (now bounds)) (testAt offsetOf 512 (now nodes) at) ≡ true) ⌝ }
@@ -60,6 +63,7 @@ fn test_of(nodes: &[i64; 2560], at: usize, rows: u64, bounds: &[i64]) -> bool
 
 // ---- each letter, from its parts
 
+// A plan that pays nothing.
 fn of_nothing() -> Measures
     ensures { λ r. ⌜ ((t : Table) (a z : ℕ) (bound : ℕ → ℕ) → MeasuresOf t a z bound nothing r) ⌝ }
 {
@@ -72,6 +76,7 @@ fn of_nothing() -> Measures
     }
 }
 
+// A penny from one party to another.
 fn of_transfer() -> Measures
     ensures { λ r. ⌜ ((t : Table) (a z : ℕ) (bound : ℕ → ℕ) (p q : ℕ) → MeasuresOf t a z bound (transfer p q) r) ⌝ }
 {
@@ -108,7 +113,7 @@ fn of_scale(rows: Rows, m: u64, x: Measures) -> Measures
 
 // A plan d months later.
 fn of_later(d: u64, x: Measures) -> Measures
-    requires { ⌜ (d ≤ maxMonths) × Addable x × (x .first ≤ 1_000_000) ⌝ }
+    requires { ⌜ (d ≤ maxMonths) × Addable x × (x .first ≤ neverMonth) ⌝ }
     ensures { λ r. ⌜ ((t : Table) (a z : ℕ) (bound : ℕ → ℕ) (p : Plan ℕ)
         → MeasuresOf t (a + d) (z + d) bound p x → MeasuresOf t a z bound (later d p) r) ⌝ }
 {
@@ -126,6 +131,7 @@ fn of_later(d: u64, x: Measures) -> Measures
     }
 }
 
+// Two plans at once.
 fn of_both(x: Measures, y: Measures) -> Measures
     requires { ⌜ Addable x × Addable y ⌝ }
     ensures { λ r. ⌜ ((t : Table) (a z : ℕ) (bound : ℕ → ℕ) (p q : Plan ℕ)

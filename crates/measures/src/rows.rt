@@ -12,12 +12,14 @@ use crate::reads;
 use crate::reads::Window;
 use nodes::AmountLetter;
 
+// What rows that stand together give.
 pub struct Rows {
     pub latest: u64,
     pub magnitude: u64,
     pub reads: bool,
 }
 
+// What a row reads that is yet to come, else 0.
 fn row_latest(nodes: &[i64; 2560], at: usize) -> u64
     requires { ⌜ at < 512 ⌝ }
     ensures { λ r. ⌜ r ≡ latestMonth (rowLatest (now (nodes .entry)) at) ⌝ }
@@ -46,6 +48,7 @@ fn row_magnitude(nodes: &[i64; 2560], at: usize, bounds: &[i64]) -> u64
     }
 }
 
+// The rows from one on up to another.
 pub fn read_rows(nodes: &[i64; 2560], from: usize, to: usize, w: Window, bounds: &[i64]) -> Rows
     requires { ⌜ (from ≤ to) × (to ≤ 512) × InBounds (now bounds) ⌝ }
     ensures { λ r. ⌜
