@@ -1,6 +1,8 @@
 -- Laws of settings and tables.
+pub mod Bounds
 pub mod Fills
 pub mod Lists
 pub mod Lookups
 pub mod PlanFills
 pub mod Spans
+pub mod Words

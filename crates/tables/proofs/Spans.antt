@@ -76,6 +76,9 @@ module _ (h f : ℤ) (factors bounds values : List ℤ) where
   pub few-labels : (f′ : ℤ) → FactorsOk f′ && BoundsOk ≡ true → length bounds ≤ maxLabels
   few-labels f′ e = leb-true (length bounds) maxLabels (both-true (leb (length bounds) maxLabels) (allOf (between (pos 0) (pos maxAmount)) bounds) (both-true (FactorsOk f′) BoundsOk e .1) .0)
 
+  pub bounds-fine : (f′ : ℤ) → FactorsOk f′ && BoundsOk ≡ true → allOf (between (pos 0) (pos maxAmount)) bounds ≡ true
+  bounds-fine f′ e = both-true (leb (length bounds) maxLabels) (allOf (between (pos 0) (pos maxAmount)) bounds) (both-true (FactorsOk f′) BoundsOk e .1) .1
+
   -- h′ and f′ are h and f as the code reads them back
   module _ (h′ f′ : ℤ) (eh : h′ ≡ h) (ef : f′ ≡ f) (s : SpanOk ≡ true) where
     pub no-parts : FactorsOk f′ && BoundsOk ≡ false → false ≡ tableOk (tableOf h f factors bounds values)

@@ -2,3 +2,4 @@
 pub mod Fill
 pub mod Given
 pub mod Lookup
+pub mod Words

@@ -1,14 +1,16 @@
 // Settings and tables: whether they keep the rules, and what they hold.
 ghost use mathlib.Core.Path.{_≡_};
-ghost use mathlib.Core.Bool.{Bool, _&&_};
+ghost use mathlib.Core.Bool.{Bool, _&&_, true};
 ghost use Prim.Native.Nat.{ℕ, _+_, _*_, _≤_};
-ghost use lib.IntN.{ℤ, pos, natAbs, negℤ};
+ghost use lib.IntN.{ℤ, pos};
 ghost use lib.Dec.{eqb, leb};
-ghost use lib.ListN.{length};
+ghost use lib.ListN.{drop, length};
+ghost use lib.Signed.{leZ};
 ghost use Rattle.language.specs.Limits.{maxAmount, maxBack, maxLabels, maxMonths, oneFactor};
 ghost use Rattle.language.specs.Rules.Table.{allOf, monthOk, partyOk, settingsOk, tableOk, valuesBounded};
 ghost use Rattle.language.specs.Text.Number.{between};
 ghost use Rattle.tables.specs.Given.{tableOf};
+ghost use Rattle.tables.specs.Words.{wordOf};
 
 pub mod fill;
 pub mod lookup;
@@ -25,18 +27,73 @@ pub fn is_between(x: i64, range: Range) -> bool
     (range.low <= x) & (x <= range.high)
 }
 
-pub fn all_between(xs: &[i64], range: Range) -> bool
-    ensures { λ r. ⌜ r ≡ allOf (between (range .low) (range .high)) (now (xs .entry)) ⌝ }
+// The 64 bits that hold x, as a number.
+fn word(x: i64) -> u64
+    ensures { λ r. ⌜ r ≡ wordOf x ⌝ }
 {
-    let mut i = 0;
+    if x < 0 {
+        (x + 1 + 9_223_372_036_854_775_807) as u64 + 9_223_372_036_854_775_808
+    } else {
+        x as u64
+    }
+}
+
+// The same by one comparison: what lies below the range is far above its first number when the difference wraps.
+fn is_within(x: i64, range: Range) -> bool
+    requires { ⌜ leZ (range .low) (range .high) ≡ true ⌝ }
+    ensures { λ r. ⌜ r ≡ between (range .low) (range .high) x ⌝ }
+{
+    let first = word(range.low);
+    let width = std::num::wrapping_sub_u64(word(range.high), first);
+    std::num::wrapping_sub_u64(word(x), first) <= width
+}
+
+// Four numbers in a row.
+fn four_between(xs: &[i64], i: usize, range: Range) -> bool
+    requires { ⌜ (i + 4 ≤ length (now xs)) × (leZ (range .low) (range .high) ≡ true) ⌝ }
+    ensures { λ r. ⌜ allOf (between (range .low) (range .high)) (drop i (now (xs .entry))) ≡ r && allOf (between (range .low) (range .high)) (drop (i + 4) (now (xs .entry))) ⌝ }
+{
+    if is_within(xs[i], range) {
+        if is_within(xs[i + 1], range) {
+            if is_within(xs[i + 2], range) {
+                return is_within(xs[i + 3], range);
+            }
+        }
+    }
+    false
+}
+
+// The numbers from `from` on, one by one.
+fn rest_between(xs: &[i64], from: usize, range: Range) -> bool
+    requires { ⌜ (from ≤ length (now xs)) × (leZ (range .low) (range .high) ≡ true) ⌝ }
+    ensures { λ r. ⌜ r ≡ allOf (between (range .low) (range .high)) (drop from (now (xs .entry))) ⌝ }
+{
+    let mut i = from;
     while i < xs.len() {
-        if is_between(xs[i], range) {
+        if is_within(xs[i], range) {
             i += 1;
         } else {
             return false;
         }
     }
     true
+}
+
+// Four at a time, then the rest.
+pub fn all_between(xs: &[i64], range: Range) -> bool
+    requires { ⌜ leZ (range .low) (range .high) ≡ true ⌝ }
+    ensures { λ r. ⌜ r ≡ allOf (between (range .low) (range .high)) (now (xs .entry)) ⌝ }
+{
+    let fours = xs.len() / 4;
+    let mut k = 0;
+    while k < fours {
+        if four_between(xs, 4 * k, range) {
+            k += 1;
+        } else {
+            return false;
+        }
+    }
+    rest_between(xs, 4 * fours, range)
 }
 
 pub fn settings_ok(days: &[i64]) -> bool
@@ -61,30 +118,21 @@ pub fn month_ok(f: i64, month: i64) -> bool
     is_between(month, Range { low: 0, high: f })
 }
 
-pub fn all_within(xs: &[i64], bound: u64) -> bool
-    ensures { λ r. ⌜ r ≡ allOf (λ v. leb (natAbs v) bound) (now (xs .entry)) ⌝ }
-{
-    let mut i = 0;
-    while i < xs.len() {
-        if integers::magnitude(xs[i]) <= bound {
-            i += 1;
-        } else {
-            return false;
-        }
-    }
-    true
-}
-
 // Each label's n values are no further from zero than its bound.
 pub fn values_bounded(n: usize, bounds: &[i64], values: &[i64]) -> bool
-    requires { ⌜ length (now values) ≡ length (now bounds) * n ⌝ }
+    requires { ⌜ (length (now values) ≡ length (now bounds) * n) × (allOf (between (pos 0) (pos maxAmount)) (now bounds) ≡ true) ⌝ }
     ensures { λ r. ⌜ r ≡ valuesBounded n (now (bounds .entry)) (now (values .entry)) ⌝ }
 {
     let mut k = 0;
     let mut at = 0;
     while k < bounds.len() {
         let end = at + n;
-        if all_within(&values[at..end], integers::magnitude(bounds[k])) {
+        let bound = bounds[k];
+        let range = Range {
+            low: 0 - bound,
+            high: bound,
+        };
+        if all_between(&values[at..end], range) {
             k += 1;
             at = end;
         } else {

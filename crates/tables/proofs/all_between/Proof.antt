@@ -1,69 +1,63 @@
-use Prim.Native.Nat.{_-_, _≤_}
-use borrow.Author.Needs.{needs}
-use lib.IntN.{pos}
-use lib.ListN.{drop, getD, length}
+use Prim.Native.Nat.{_*_, _+_, _-_, _/_, _≤_}
+use lib.ListN.{drop, length}
+use mathlib.Core.Bool.{_&&_}
 use mathlib.Core.Path.{_∙_, _≡_, ap, refl, sym}
-use mir.Facts.{toZ-ofZ}
-use mir.Syntax.{w64}
-use mir.Val.{SFits}
 use native.Mathlib.Omega.{arith}
 use Rattle.language.specs.Rules.Table.{allOf}
 use Rattle.language.specs.Text.Number.{between}
-use Rattle.tables.proofs.Lists.{all-done, all-failed, all-passed}
-use Rattle.tables.proofs.all_between.Lts as lts
-use Rattle.tables.proofs.all_between.Reads as reads
+use Rattle.tables.proofs.Lists.{four-failed, four-passed}
 use Rattle.tables.proofs.all_between.Statement.{statement}
 use Rattle.tables.proofs.all_between.Tie as tie
-use Rattle.tables.proofs.is_between.Reads as is-between-reads
+use Rattle.tables.proofs.all_between.Reads as reads
+use Rattle.tables.proofs.all_between.Lts as lts
+use Rattle.tables.proofs.four_between.Reads as four-between-reads
+use Rattle.tables.proofs.rest_between.Reads as rest-between-reads
 
 abbrev Inv-loop : tie.InvT-loop
-Inv-loop xs range i₀ i = (i ≤ length xs) × (allOf (between (range .low) (range .high)) xs ≡ allOf (between (range .low) (range .high)) (drop i xs))
+Inv-loop xs range fours k₀ k = (k ≤ fours) × (allOf (between (range .low) (range .high)) xs ≡ allOf (between (range .low) (range .high)) (drop (4 * k) xs))
 
 abbrev μ-loop : tie.MeasureT-loop
-μ-loop xs range i₀ i = length xs - i
+μ-loop xs range fours k₀ k = fours - k
 
 loop-holds : tie.Need-loop-holds Inv-loop μ-loop
 loop-holds c = (omega arith, refl)
 
-mul-is-between : tie.Need-mul-is-between Inv-loop μ-loop
-mul-is-between c = omega arith
+mul-four-between : tie.Need-mul-four-between Inv-loop μ-loop
+mul-four-between c = omega arith
 
-shared-slice-copy-out-is-between : tie.Need-shared-slice-copy-out-is-between Inv-loop μ-loop
-shared-slice-copy-out-is-between c = omega arith
+four-between-requires : tie.Need-four-between-requires Inv-loop μ-loop
+four-between-requires c κs = (omega arith, c .before .before .pre)
 
-is-between-requires : tie.Need-is-between-requires Inv-loop μ-loop
-is-between-requires c κs = tt
-
-add-i : tie.Need-add-i Inv-loop μ-loop
-add-i c = omega arith
+add-k : tie.Need-add-k Inv-loop μ-loop
+add-k c = omega arith
 
 loop-less : tie.Need-loop-less Inv-loop μ-loop
 loop-less c = omega arith
 
 loop-again : tie.Need-loop-again Inv-loop μ-loop
 loop-again c =
-    let s = c .before .before .before .before in
-    let range = s .before .args .range in
-    let xs = s .before .args .xs .now in
-    let f : SFits w64 (getD xs (s .loop .i) (pos 0)) = search needs in
-    let e = sym (c .before .is-between .ensures ∙ ap (between (range .low) (range .high)) (toZ-ofZ f)) ∙ c .if1 .taken in
-    (omega arith, s .loop .inv .1 ∙ all-passed (between (range .low) (range .high)) xs (s .loop .i) (omega arith) e)
+    let s = c .before .before .before in
+    let p = between (s .before .args .range .low) (s .before .args .range .high) in
+    (omega arith, s .loop .inv .1 ∙ four-passed p (s .before .args .xs .now) (s .loop .k) (c .before .four-between .ensures) (c .if1 .taken))
 
 returns : tie.Need-returns Inv-loop μ-loop
 returns c =
-    let s = c .before .before .before .before in
-    let range = s .before .args .range in
-    let xs = s .before .args .xs .now in
-    let f : SFits w64 (getD xs (s .loop .i) (pos 0)) = search needs in
-    let e = sym (c .before .is-between .ensures ∙ ap (between (range .low) (range .high)) (toZ-ofZ f)) ∙ c .if1 .left in
-    sym (s .loop .inv .1 ∙ all-failed (between (range .low) (range .high)) xs (s .loop .i) (omega arith) e)
+    let s = c .before .before .before in
+    let p = between (s .before .args .range .low) (s .before .args .range .high) in
+    sym (s .loop .inv .1 ∙ four-failed p (s .before .args .xs .now) (s .loop .k) (c .before .four-between .ensures) (c .if1 .left))
+
+mul-rest-between : tie.Need-mul-rest-between Inv-loop μ-loop
+mul-rest-between c = omega arith
+
+rest-between-requires : tie.Need-rest-between-requires Inv-loop μ-loop
+rest-between-requires c κs = (omega arith, c .before .before .pre)
 
 returns-2 : tie.Need-returns-2 Inv-loop μ-loop
 returns-2 c =
-    let s = c .before in
-    let range = s .before .args .range in
-    let xs = s .before .args .xs .now in
-    sym (s .loop .inv .1 ∙ all-done (between (range .low) (range .high)) xs (s .loop .i) (omega arith))
+    let s = c .before .before in
+    let p = between (s .before .args .range .low) (s .before .args .range .high) in
+    let e : s .loop .k ≡ length (s .before .args .xs .now) / 4 = omega arith in
+    c .rest-between .ensures ∙ sym (s .loop .inv .1 ∙ ap (λ k. allOf p (drop (4 * k) (s .before .args .xs .now))) e)
 
 pub all-between-spec : {M : Type 1} → statement M
 all-between-spec =
@@ -72,11 +66,12 @@ all-between-spec =
     Inv-loop
     μ-loop
     loop-holds
-    mul-is-between
-    shared-slice-copy-out-is-between
-    is-between-requires
-    add-i
+    mul-four-between
+    four-between-requires
+    add-k
     loop-less
     loop-again
     returns
+    mul-rest-between
+    rest-between-requires
     returns-2)

@@ -12,7 +12,7 @@ use native.Mathlib.Omega.{arith}
 use Rattle.integers.proofs.Locals.{rd}
 use Rattle.language.specs.Text.Number.{between}
 use Rattle.nodes.proofs.Signed.{index-cast}
-use Rattle.tables.proofs.Spans.{UpTo, both-true, by-values, few-labels, no-count, no-parts, no-span, up-to}
+use Rattle.tables.proofs.Spans.{UpTo, both-true, bounds-fine, by-values, few-labels, no-count, no-parts, no-span, up-to}
 use Rattle.tables.proofs.table_ok.Lts as lts
 use Rattle.tables.proofs.table_ok.Reads as reads
 use Rattle.tables.proofs.table_ok.Statement.{statement}
@@ -72,7 +72,10 @@ mul-if3 c =
     rw (toZ-ofZ f, toZ-ofZ h) (omega (arith, mul-le-mul l m))
 
 values-bounded-requires : tie.Need-values-bounded-requires
-values-bounded-requires c κs = search needs
+values-bounded-requires c κs =
+    let s = c .before .before .before .before .before .before .before .before in
+    let e = sym (ap₂ _&&_ (c .before .before .before .factors-ok .ensures) (c .before .before .bounds-ok .ensures)) ∙ c .before .if2 .taken in
+    (c .if3 .taken, bounds-fine (s .before .before .args .span .h) (s .before .before .args .span .f) (s .before .before .args .factors .now) (s .before .before .args .bounds .now) (s .before .before .args .values .now) (rd (s .before .before .args .span .f)) e)
 
 returns : tie.Need-returns
 returns c =

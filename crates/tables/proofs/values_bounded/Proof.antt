@@ -1,20 +1,23 @@
 use Prim.Native.Nat.{_*_, _+_, _-_, _≤_}
 use borrow.Author.Needs.{needs}
-use lib.IntN.{natAbs, pos}
+use lib.IntN.{pos}
 use lib.ListN.{drop, getD, length}
-use mathlib.Core.Path.{_∙_, _≡_, ap, refl, sym}
+use mathlib.Core.Path.{_∙_, _≡_, refl, sym}
 use mir.Facts.{toZ-ofZ}
 use mir.Syntax.{w64}
 use mir.Val.{SFits}
 use native.Mathlib.Omega.{arith}
+use Rattle.language.specs.Limits.{maxAmount}
 use Rattle.language.specs.Rules.Table.{valuesBounded}
+use Rattle.language.specs.Text.Number.{between}
+use Rattle.tables.proofs.Bounds.{in-order, opposite-fits, opposite-reads}
+use Rattle.tables.proofs.Fills.{all-at}
 use Rattle.tables.proofs.Lists.{bounded-done, bounded-failed, bounded-passed, label-room}
-use Rattle.tables.proofs.values_bounded.Lts as lts
-use Rattle.tables.proofs.values_bounded.Reads as reads
 use Rattle.tables.proofs.values_bounded.Statement.{statement}
 use Rattle.tables.proofs.values_bounded.Tie as tie
-use Rattle.tables.proofs.all_within.Reads as all-within-reads
-use Rattle.integers.proofs.magnitude.Reads as magnitude-reads
+use Rattle.tables.proofs.values_bounded.Reads as reads
+use Rattle.tables.proofs.values_bounded.Lts as lts
+use Rattle.tables.proofs.all_between.Reads as all-between-reads
 
 abbrev Inv-loop : tie.InvT-loop
 Inv-loop n bounds values k₀ at₀ k at = (k ≤ length bounds) × (at ≡ k * n) × (valuesBounded n bounds values ≡ valuesBounded n (drop k bounds) (drop at values))
@@ -28,36 +31,46 @@ loop-holds c = (omega arith, omega arith, refl)
 add-end : tie.Need-add-end Inv-loop μ-loop
 add-end c =
     let s = c .before in
-    omega (arith, label-room (s .before .args .n) (s .before .args .bounds .now) (s .before .args .values .now) (s .loop .k) (s .loop .at) (omega arith) (s .loop .inv .1) (s .before .pre))
+    omega (arith, label-room (s .before .args .n) (s .before .args .bounds .now) (s .before .args .values .now) (s .loop .k) (s .loop .at) (omega arith) (s .loop .inv .1) (s .before .pre .0))
 
-mul-all-within : tie.Need-mul-all-within Inv-loop μ-loop
-mul-all-within c =
-    let s = c .before in
-    omega (arith, label-room (s .before .args .n) (s .before .args .bounds .now) (s .before .args .values .now) (s .loop .k) (s .loop .at) (omega arith) (s .loop .inv .1) (s .before .pre))
+mul-bound : tie.Need-mul-bound Inv-loop μ-loop
+mul-bound c = omega arith
 
-sub-all-within : tie.Need-sub-all-within Inv-loop μ-loop
-sub-all-within c = omega arith
+shared-slice-copy-out-bound : tie.Need-shared-slice-copy-out-bound Inv-loop μ-loop
+shared-slice-copy-out-bound c = omega arith
 
-part-all-within-start : tie.Need-part-all-within-start Inv-loop μ-loop
-part-all-within-start c = search needs
+sub-t12 : tie.Need-sub-t12 Inv-loop μ-loop
+sub-t12 c =
+    let s = c .before .before in
+    let bounds = s .before .args .bounds .now in
+    let f : SFits w64 (getD bounds (s .loop .k) (pos 0)) = search needs in
+    let e = all-at (between (pos 0) (pos maxAmount)) bounds (s .before .pre .1) (s .loop .k) (omega arith) in
+    opposite-fits _ f e
 
-part-all-within-end : tie.Need-part-all-within-end Inv-loop μ-loop
-part-all-within-end c =
-    let s = c .before in
-    let h : s .loop .at + s .before .args .n ≤ length (s .before .args .values .now) = label-room (s .before .args .n) (s .before .args .bounds .now) (s .before .args .values .now) (s .loop .k) (s .loop .at) (omega arith) (s .loop .inv .1) (s .before .pre) in
+mul-all-between : tie.Need-mul-all-between Inv-loop μ-loop
+mul-all-between c =
+    let s = c .before .before in
+    omega (arith, label-room (s .before .args .n) (s .before .args .bounds .now) (s .before .args .values .now) (s .loop .k) (s .loop .at) (omega arith) (s .loop .inv .1) (s .before .pre .0))
+
+sub-all-between : tie.Need-sub-all-between Inv-loop μ-loop
+sub-all-between c = omega arith
+
+part-all-between-start : tie.Need-part-all-between-start Inv-loop μ-loop
+part-all-between-start c = search needs
+
+part-all-between-end : tie.Need-part-all-between-end Inv-loop μ-loop
+part-all-between-end c =
+    let s = c .before .before in
+    let h : s .loop .at + s .before .args .n ≤ length (s .before .args .values .now) = label-room (s .before .args .n) (s .before .args .bounds .now) (s .before .args .values .now) (s .loop .k) (s .loop .at) (omega arith) (s .loop .inv .1) (s .before .pre .0) in
     search needs
 
-mul-magnitude : tie.Need-mul-magnitude Inv-loop μ-loop
-mul-magnitude c = omega arith
-
-shared-slice-copy-out-magnitude : tie.Need-shared-slice-copy-out-magnitude Inv-loop μ-loop
-shared-slice-copy-out-magnitude c = omega arith
-
-magnitude-requires : tie.Need-magnitude-requires Inv-loop μ-loop
-magnitude-requires c κs = tt
-
-all-within-requires : tie.Need-all-within-requires Inv-loop μ-loop
-all-within-requires c κs = tt
+all-between-requires : tie.Need-all-between-requires Inv-loop μ-loop
+all-between-requires c κs =
+    let s = c .before .before .before in
+    let bounds = s .before .args .bounds .now in
+    let f : SFits w64 (getD bounds (s .loop .k) (pos 0)) = search needs in
+    let e = all-at (between (pos 0) (pos maxAmount)) bounds (s .before .pre .1) (s .loop .k) (omega arith) in
+    in-order _ f e
 
 add-k : tie.Need-add-k Inv-loop μ-loop
 add-k c = omega arith
@@ -67,22 +80,19 @@ loop-less c = omega arith
 
 loop-again : tie.Need-loop-again Inv-loop μ-loop
 loop-again c =
-    let s = c .before .before .before .before .before .before in
+    let s = c .before .before .before .before .before in
     let bounds = s .before .args .bounds .now in
     let f : SFits w64 (getD bounds (s .loop .k) (pos 0)) = search needs in
-    let m = c .before .before .magnitude .ensures ∙ ap natAbs (toZ-ofZ f) in (
-      omega arith,
-      omega arith,
-      s .loop .inv .2 ∙ bounded-passed (s .before .args .n) bounds (s .before .args .values .now) (s .loop .k) (s .loop .at) _ (omega arith) m (sym (c .before .all-within .ensures) ∙ c .if1 .taken),
-    )
+    let e = all-at (between (pos 0) (pos maxAmount)) bounds (s .before .pre .1) (s .loop .k) (omega arith) in
+    (omega arith, omega arith, s .loop .inv .2 ∙ bounded-passed (s .before .args .n) bounds (s .before .args .values .now) (s .loop .k) (s .loop .at) (omega arith) e (opposite-reads _ f e) (toZ-ofZ f) (c .before .all-between .ensures) (c .if1 .taken))
 
 returns : tie.Need-returns Inv-loop μ-loop
 returns c =
-    let s = c .before .before .before .before .before .before in
+    let s = c .before .before .before .before .before in
     let bounds = s .before .args .bounds .now in
     let f : SFits w64 (getD bounds (s .loop .k) (pos 0)) = search needs in
-    let m = c .before .before .magnitude .ensures ∙ ap natAbs (toZ-ofZ f) in
-    sym (s .loop .inv .2 ∙ bounded-failed (s .before .args .n) bounds (s .before .args .values .now) (s .loop .k) (s .loop .at) _ (omega arith) m (sym (c .before .all-within .ensures) ∙ c .if1 .left))
+    let e = all-at (between (pos 0) (pos maxAmount)) bounds (s .before .pre .1) (s .loop .k) (omega arith) in
+    sym (s .loop .inv .2 ∙ bounded-failed (s .before .args .n) bounds (s .before .args .values .now) (s .loop .k) (s .loop .at) (omega arith) e (opposite-reads _ f e) (toZ-ofZ f) (c .before .all-between .ensures) (c .if1 .left))
 
 returns-2 : tie.Need-returns-2 Inv-loop μ-loop
 returns-2 c =
@@ -97,14 +107,14 @@ values-bounded-spec =
     μ-loop
     loop-holds
     add-end
-    mul-all-within
-    sub-all-within
-    part-all-within-start
-    part-all-within-end
-    mul-magnitude
-    shared-slice-copy-out-magnitude
-    magnitude-requires
-    all-within-requires
+    mul-bound
+    shared-slice-copy-out-bound
+    sub-t12
+    mul-all-between
+    sub-all-between
+    part-all-between-start
+    part-all-between-end
+    all-between-requires
     add-k
     loop-less
     loop-again
