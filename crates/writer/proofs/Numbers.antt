@@ -1,19 +1,20 @@
 -- Signed numbers: what the machine holds, their distance from zero, and the minus in front.
 use Prim.Native.Nat.{_%_, _+_, _-_, _<_, _^_, _≤_, suc, ℕ}
-use borrow.Author.Tests.{ltb-true}
-use lib.Dec.{T}
+use borrow.Author.Tests.{leb-true, ltb-true}
+use lib.Dec.{T, leb}
 use lib.IntN.{_-ℤ_, natAbs, negsuc, pos, ℤ}
 use lib.Signed.{ltZ, mag, nonNeg}
-use mathlib.Core.Bool.{Bool, false, true, true≢false}
+use mathlib.Core.Bool.{Bool, _&&_, false, true, true≢false}
 use mathlib.Core.List.{[], _∷_}
-use mathlib.Core.Path.{_∙_, _≡_, refl}
+use mathlib.Core.Path.{_∙_, _≡_, refl, sym}
 use mir.Facts.{toZ-ofZ}
-use mir.Syntax.{w64}
+use mir.Syntax.{w64, w8}
 use mir.Val.{Fits, SFits, ofZ, toZ}
 use native.Mathlib.Omega.{arith}
 use Rattle.integers.proofs.Solver.{_⊖_, lit, ring, ⊝}
 use Rattle.language.specs.Text.Classes.{printDelay, printSetting}
-use Rattle.language.specs.Text.Number.{printNat, printNumber}
+use Rattle.language.specs.Text.Number.{between, printNat, printNumber}
+use Rattle.writer.proofs.Decimal.{print-few}
 use Rattle.writer.specs.Written.{delayOf}
 
 -- what a local that holds z reads as
@@ -125,3 +126,27 @@ module _ (z : ℤ) (f : SFits w64 z) (m : ℕ) (q : m ≡ natAbs z) where
 
   pub some-below : ltZ (rd z) (pos 0) ≡ true → 1 ≤ m
   some-below e = omega (arith, abs-some z (test-is z f true e))
+
+-- ---- numbers of one digit
+
+digit-parts : (z : ℤ) → between (pos 0) (pos 9) z ≡ true → (natAbs z < 10) × T (nonNeg z) × (printNumber z ≡ (48 + natAbs z) ∷ [])
+unfolding printNumber
+digit-parts (pos n) e = let h : n < 10 = omega (arith, leb-true n 9 (both (leb 0 n) (leb n 9) e)) in (h, tt, print-few n h)
+  where
+    both : (a b : Bool) → a && b ≡ true → b ≡ true
+    both true b e = e
+    both false b e = absurd (true≢false (sym e))
+digit-parts (negsuc n) e = absurd (true≢false (sym e))
+
+pub digit-text : (z : ℤ) → between (pos 0) (pos 9) z ≡ true → printNumber z ≡ (48 + natAbs z) ∷ []
+digit-text z e = digit-parts z e .2
+
+module _ (z : ℤ) (f : SFits w64 z) (e : between (pos 0) (pos 9) z ≡ true) where
+  pub digit-cast : T (nonNeg (rd z)) × Fits w8 (natAbs (rd z))
+  digit-cast = rw (toZ-ofZ f) (digit-parts z e .1, record { fits = omega (arith, digit-parts z e .0) })
+
+  pub digit-byte : Fits w8 (48 + natAbs (rd z))
+  digit-byte = rw (toZ-ofZ f) (record { fits = omega (arith, digit-parts z e .0) })
+
+  pub digit-is : printNumber z ≡ (48 + natAbs (rd z)) ∷ []
+  digit-is = rw (toZ-ofZ f) (digit-text z e)

@@ -41,6 +41,10 @@ module _ (nodes : List ℤ) (j : ℕ) where
       rw l (ap (λ (fs : List (List ℕ)). b ∷ behind 44 fs) (h .fields (drop j nodes))
       ∙ ap (λ (u : Shape). b ∷ behind 44 (shapeFields u (drop j nodes))) e ∙ ap (λ (r : List ℕ). b ∷ r) (parts-are t))
 
+-- a row that is its letter alone
+pub bare-at : (nodes : List ℤ) (j b : ℕ) → b ≡ letterByte (slot nodes j) → ShapeOf b Bare → rowText (drop j nodes) ≡ b ∷ []
+bare-at nodes j b q h = row-at nodes j b q Bare h Bare refl
+
 -- ---- lengths
 
 pub long-0 : (t : List ℕ) (b : ℕ) → t ≡ b ∷ [] → 1 ≡ length t

@@ -1,9 +1,10 @@
 // Whole numbers as decimal text.
 ghost use mathlib.Core.Path.{_≡_};
+ghost use mathlib.Core.Bool.{true};
 ghost use Prim.Native.Nat.{_+_, _<_, _^_, _≤_};
-ghost use lib.IntN.{natAbs};
+ghost use lib.IntN.{natAbs, pos};
 ghost use lib.ListN.{length};
-ghost use Rattle.language.specs.Text.Number.{printNat, printNumber};
+ghost use Rattle.language.specs.Text.Number.{between, printNat, printNumber};
 ghost use Rattle.writer.specs.Digits.{allPairs, eight, four, two};
 ghost use Rattle.writer.specs.Put.{Put};
 ghost use Rattle.writer.specs.Written.{slot};
@@ -161,14 +162,45 @@ pub fn put_digits(n: u64, out: &mut [u8], at: usize) -> usize
     }
 }
 
-// The bytes of the number at k.
-pub fn number_length(nodes: &[i64], k: usize) -> usize
+// Whether the number at k is one digit.
+pub fn is_digit(nodes: &[i64], k: usize) -> bool
+    requires { ⌜ k < length (now nodes) ⌝ }
+    ensures { λ r. ⌜ r ≡ between (pos 0) (pos 9) (slot (now (nodes .entry)) k) ⌝ }
+{
+    let z = nodes[k];
+    (0 <= z) & (z <= 9)
+}
+
+// The bytes of the number at k, its digits counted.
+fn counted_length(nodes: &[i64], k: usize) -> usize
     requires { ⌜ k < length (now nodes) ⌝ }
     ensures { λ r. ⌜ r ≡ length (printNumber (slot (now (nodes .entry)) k)) ⌝ }
 {
     let z = nodes[k];
     let count = digit_count(magnitude(nodes, k));
     if z < 0 { 1 + count } else { count }
+}
+
+// The bytes of the number at k.
+pub fn number_length(nodes: &[i64], k: usize) -> usize
+    requires { ⌜ k < length (now nodes) ⌝ }
+    ensures { λ r. ⌜ r ≡ length (printNumber (slot (now (nodes .entry)) k)) ⌝ }
+{
+    if is_digit(nodes, k) {
+        1
+    } else {
+        counted_length(nodes, k)
+    }
+}
+
+// Writes the digit at k.
+pub fn put_digit(nodes: &[i64], k: usize, out: &mut [u8], at: usize) -> usize
+    requires { ⌜ (k < length (now nodes)) × (between (pos 0) (pos 9) (slot (now nodes) k) ≡ true) × (at < length (now out)) ⌝ }
+    ensures { λ r. ⌜ Put (now (out .entry)) (now (out .exit)) at r (printNumber (slot (now (nodes .entry)) k)) ⌝ }
+{
+    let z = nodes[k];
+    out[at] = 48 + z as u8;
+    at + 1
 }
 
 // Writes the number at k.

@@ -124,7 +124,11 @@ pub fn put_field(nodes: &[i64], k: usize, out: &mut [u8], at: usize) -> usize
     ensures { λ r. ⌜ Put (now (out .entry)) (now (out .exit)) at r (numberField (slot (now (nodes .entry)) k)) ⌝ }
 {
     out[at] = b',';
-    digits::put_number(nodes, k, out, at + 1)
+    if digits::is_digit(nodes, k) {
+        digits::put_digit(nodes, k, out, at + 1)
+    } else {
+        digits::put_number(nodes, k, out, at + 1)
+    }
 }
 
 // The same, where the caller holds the table of pairs.
