@@ -1,5 +1,5 @@
 -- A row's text, part after part, as the code writes it.
-use Prim.Native.Nat.{_+_, ℕ}
+use Prim.Native.Nat.{_+_, suc, zero, ℕ}
 use lib.IntN.{pos, ℤ}
 use lib.ListN.{drop, length, length-append}
 use lib.Seq.{getD-drop}
@@ -7,7 +7,7 @@ use mathlib.Core.List.{List, [], _++_, _∷_}
 use mathlib.Core.Path.{_∙_, _≡_, ap, refl, sym}
 use native.Mathlib.Omega.{arith}
 use Rattle.language.specs.Text.Fields.{behind, joinWith}
-use Rattle.writer.specs.Shapes.{ShapeOf, delayField, monthField, numberField, rowText, shapeFields}
+use Rattle.writer.specs.Shapes.{ShapeOf, commaAt, delayField, monthField, numberField, rowText, shapeFields}
 use Rattle.writer.specs.Written.{fieldsOfRow, letterByte, slot}
 use Rattle.writer.specs.declared.rows.Shape.the-variants.{Bare, Index, Leaf, Number, Pair, Wait}
 use Rattle.writer.specs.declared.rows.Shape.{Shape}
@@ -41,9 +41,14 @@ module _ (nodes : List ℤ) (j : ℕ) where
       rw l (ap (λ (fs : List (List ℕ)). b ∷ behind 44 fs) (h .fields (drop j nodes))
       ∙ ap (λ (u : Shape). b ∷ behind 44 (shapeFields u (drop j nodes))) e ∙ ap (λ (r : List ℕ). b ∷ r) (parts-are t))
 
--- a row that is its letter alone
-pub bare-at : (nodes : List ℤ) (j b : ℕ) → b ≡ letterByte (slot nodes j) → ShapeOf b Bare → rowText (drop j nodes) ≡ b ∷ []
-bare-at nodes j b q h = row-at nodes j b q Bare h Bare refl
+-- ---- the comma in front
+
+pub no-comma : (i : ℕ) → i ≡ 0 → commaAt i ≡ []
+no-comma i e = rw e
+
+pub comma : (i : ℕ) → (i ≡ 0 → ⊥) → commaAt i ≡ 44 ∷ []
+comma zero n = absurd (n refl)
+comma (suc i) n = refl
 
 -- ---- lengths
 

@@ -7,9 +7,9 @@ use mathlib.Core.List.{List, [], _++_, _∷_, append-assoc, append-nil}
 use mathlib.Core.Path.{_∙_, _≡_, ap, refl, sym}
 use native.Mathlib.Omega.{arith}
 use Rattle.language.specs.Text.Fields.{behind, joinWith}
-use Rattle.writer.proofs.Puts.{none, room-as, room-first, room-next, said, then}
+use Rattle.writer.proofs.Puts.{none, room-first, room-next, said, then}
 use Rattle.writer.specs.Put.{Put}
-use Rattle.writer.specs.Shapes.{restText, rowText}
+use Rattle.writer.specs.Shapes.{commaAt, rowText}
 use Rattle.writer.specs.Written.{fieldsOfRow, fieldsOfRows, written}
 
 rows-split : (i m : ℕ) (nodes : List ℤ) → fieldsOfRows (i + m) nodes ≡ fieldsOfRows i nodes ++ fieldsOfRows m (drop (5 * i) nodes)
@@ -67,70 +67,61 @@ text-more i nodes h =
 
 -- ---- counting
 
+-- all rows so far, each behind a comma
+behind-more : (i : ℕ) (nodes : List ℤ) → behind 44 (fieldsOfRows (i + 1) nodes) ≡ behind 44 (fieldsOfRows i nodes) ++ (44 ∷ rowText (drop (5 * i) nodes))
+unfolding fieldsOfRows behind
+behind-more i nodes =
+    ap (behind 44) (rows-split i 1 nodes) ∙ behind-append 44 (fieldsOfRows i nodes) (fieldsOfRows 1 (drop (5 * i) nodes))
+    ∙ ap (λ (t : List ℕ). behind 44 (fieldsOfRows i nodes) ++ t) (behind-rows 0 (drop (5 * i) nodes) ∙ append-nil (44 ∷ rowText (drop (5 * i) nodes)))
+
 pub record Counted (nodes : List ℤ) (count sum i : ℕ) : Type 0 where
-  pub is : sum ≡ length (written i nodes)
-  pub some : 1 ≤ i
+  pub is : sum ≡ length (behind 44 (fieldsOfRows i nodes))
   pub most : i ≤ count
   pub small : sum ≤ 901 * i
 
-pub counted-one : (nodes : List ℤ) (count r : ℕ) → (count ≡ 0 → ⊥) → r ≡ length (rowText nodes) → r ≤ 900 → Counted nodes count r 1
-counted-one nodes count r h e m = record { is = e ∙ ap length (sym (text-one nodes)); some = omega arith; most = omega arith; small = omega arith }
+pub counted-none : (nodes : List ℤ) (count : ℕ) → Counted nodes count 0 0
+unfolding fieldsOfRows behind
+counted-none nodes count = record { is = refl; most = omega arith; small = omega arith }
 
 pub counted-more : (nodes : List ℤ) (count sum i r : ℕ) → Counted nodes count sum i → i < count → r ≡ length (rowText (drop (5 * i) nodes)) → r ≤ 900 → Counted nodes count (sum + 1 + r) (i + 1)
 counted-more nodes count sum i r s h e m = record {
-  is = omega (arith, s .is, ap length (text-more i nodes (s .some)), length-append (written i nodes) (44 ∷ rowText (drop (5 * i) nodes)));
-  some = omega arith;
+  is = omega (arith, s .is, ap length (behind-more i nodes), length-append (behind 44 (fieldsOfRows i nodes)) (44 ∷ rowText (drop (5 * i) nodes)));
   most = omega arith;
   small = omega (arith, s .small);
 }
 
-pub counted-all : (nodes : List ℤ) (count sum i : ℕ) → Counted nodes count sum i → count ≤ i → sum ≡ length (written count nodes)
-counted-all nodes count sum i s h = let e : i ≡ count = omega (arith, s .most) in rw e at (s .is)
+pub counted-all : (nodes : List ℤ) (count sum i : ℕ) → Counted nodes count sum i → count ≤ i → (count ≡ 0 → ⊥) → sum ≡ 1 + length (written count nodes)
+counted-all nodes zero sum i s h n = absurd (n refl)
+counted-all nodes (suc n) sum i s h _ = let e : i ≡ suc n = omega (arith, s .most) in omega (arith, rw e at (s .is), ap length (written-behind n nodes))
 
 -- ---- writing
 
-next-rest : (count i : ℕ) (nodes : List ℤ) → i < count → restText count i nodes ≡ (44 ∷ rowText (drop (5 * i) nodes)) ++ restText count (i + 1) nodes
-next-rest count i nodes h =
-    let e : count - i ≡ suc (count - (i + 1)) = omega arith in
-    let d : drop 5 (drop (5 * i) nodes) ≡ drop (5 * (i + 1)) nodes =
-    drop-drop 5 (5 * i) nodes ∙ ap (λ (k : ℕ). drop k nodes) (let q : 5 * i + 5 ≡ 5 * (i + 1) = omega arith in q) in
-    rw e (behind-rows (count - (i + 1)) (drop (5 * i) nodes) ∙ ap (λ (l : List ℤ). (44 ∷ rowText (drop (5 * i) nodes)) ++ behind 44 (fieldsOfRows (count - (i + 1)) l)) d)
+text-next : (i : ℕ) (nodes : List ℤ) → written (i + 1) nodes ≡ (written i nodes ++ commaAt i) ++ rowText (drop (5 * i) nodes)
+text-next zero nodes = text-one nodes ∙ ap (λ (t : List ℕ). (t ++ []) ++ rowText nodes) (sym (text-none 0 nodes refl))
+text-next (suc i) nodes = text-more (suc i) nodes (omega arith) ∙ sym (append-assoc (written (suc i) nodes) (44 ∷ []) (rowText (drop (5 * suc i) nodes)))
 
-last-rest : (count i : ℕ) (nodes : List ℤ) → count ≤ i → restText count i nodes ≡ []
-unfolding fieldsOfRows behind
-last-rest count i nodes h = let e : count - i ≡ 0 = omega arith in rw e
+text-longer : (i count : ℕ) (nodes : List ℤ) → i < count → length (written (i + 1) nodes) ≤ length (written count nodes)
+text-longer i count nodes h =
+    let e : i + 1 + (count - (i + 1)) ≡ count = omega arith in
+    omega (arith, ap length (ap (λ (k : ℕ). written k nodes) (sym e) ∙ text-split (i + 1) (count - (i + 1)) nodes (omega arith)), length-append (written (i + 1) nodes) (behind 44 (fieldsOfRows (count - (i + 1)) (drop (5 * (i + 1)) nodes))))
 
--- the rows from row 1 to row i stand in the buffer
-pub record Writing (nodes : List ℤ) (count : ℕ) (old out : List ℕ) (at place i : ℕ) : Type 0 where
-  pub done : List ℕ
-  pub put : Put old out at place done
-  pub all : restText count 1 nodes ≡ done ++ restText count i nodes
+-- row i behind the rows before it
+module _ (nodes : List ℤ) (count i : ℕ) {old out : List ℕ} {place : ℕ} (h : i < count) (room : length (written count nodes) ≤ length old) (p : Put old out 0 place (written i nodes)) where
+  room-row : 0 + length ((written i nodes ++ commaAt i) ++ rowText (drop (5 * i) nodes)) ≤ length old
+  room-row = omega (arith, ap length (text-next i nodes), text-longer i count nodes h)
 
-pub writing-starts : (nodes : List ℤ) (count : ℕ) (out : List ℕ) (at : ℕ) → Writing nodes count out out at at 1
-writing-starts nodes count out at = record { done = []; put = none; all = refl }
+  pub comma-room : place + length (commaAt i) ≤ length out
+  comma-room = room-next (commaAt i) (room-first 0 (length old) (written i nodes ++ commaAt i) (rowText (drop (5 * i) nodes)) room-row) p
 
-module _ (nodes : List ℤ) (count : ℕ) (old out : List ℕ) (at place i : ℕ) (s : Writing nodes count old out at place i) where
-  module _ (h : i < count) where
-    split : restText count 1 nodes ≡ s .done ++ ((44 ∷ rowText (drop (5 * i) nodes)) ++ restText count (i + 1) nodes)
-    split = s .all ∙ ap (λ (t : List ℕ). s .done ++ t) (next-rest count i nodes h)
+  module _ {mid : List ℕ} {next : ℕ} (q : Put out mid place next (commaAt i)) where
+    pub row-room : next + length (rowText (drop (5 * i) nodes)) ≤ length mid
+    row-room = room-next (rowText (drop (5 * i) nodes)) room-row (then p q)
 
-    pub next-room : at + length (restText count 1 nodes) ≤ length old → place + length (44 ∷ rowText (drop (5 * i) nodes)) ≤ length out
-    next-room r =
-        let q : at + length (s .done ++ ((44 ∷ rowText (drop (5 * i) nodes)) ++ restText count (i + 1) nodes)) ≤ length old = room-as at (length old) _ _ split r in
-        room-first place (length out) (44 ∷ rowText (drop (5 * i) nodes)) (restText count (i + 1) nodes) (room-next _ q (s .put))
+    pub row-put : {new : List ℕ} {end : ℕ} → Put mid new next end (rowText (drop (5 * i) nodes)) → Put old new 0 end (written (i + 1) nodes)
+    row-put r = said (sym (text-next i nodes)) (then (then p q) r)
 
-    pub writing-on : (new : List ℕ) (next : ℕ) → Put out new place next (44 ∷ rowText (drop (5 * i) nodes)) → Writing nodes count old new at next (i + 1)
-    writing-on new next p = record {
-      done = s .done ++ (44 ∷ rowText (drop (5 * i) nodes));
-      put = then (s .put) p;
-      all = split ∙ sym (append-assoc (s .done) (44 ∷ rowText (drop (5 * i) nodes)) (restText count (i + 1) nodes));
-    }
+pub text-starts : (nodes : List ℤ) {out : List ℕ} → Put out out 0 0 (written 0 nodes)
+text-starts nodes = said (sym (text-none 0 nodes refl)) none
 
-  pub writing-ends : count ≤ i → Put old out at place (restText count 1 nodes)
-  writing-ends h = said (sym (s .all ∙ rw (last-rest count i nodes h) (append-nil (s .done)))) (s .put)
-
--- the first row, then the others
-pub text-parts : (nodes : List ℤ) (count : ℕ) → (count ≡ 0 → ⊥) → written count nodes ≡ rowText nodes ++ restText count 1 nodes
-text-parts nodes count h =
-    let e : 1 + (count - 1) ≡ count = omega arith in
-    ap (λ (k : ℕ). written k nodes) (sym e) ∙ text-split 1 (count - 1) nodes (omega arith) ∙ ap (λ (t : List ℕ). t ++ restText count 1 nodes) (text-one nodes)
+pub text-ends : (nodes : List ℤ) (count i : ℕ) {old out : List ℕ} {place : ℕ} → i ≤ count → count ≤ i → Put old out 0 place (written i nodes) → Put old out 0 place (written count nodes)
+text-ends nodes count i h l p = let e : i ≡ count = omega arith in rw e at p

@@ -1,7 +1,6 @@
 -- Which fields a row has, as the code tells them apart, and the texts of its parts.
-use Prim.Native.Nat.{_*_, _-_, ℕ}
+use Prim.Native.Nat.{suc, zero, ℕ}
 use lib.IntN.{ℤ}
-use lib.ListN.{drop}
 use mathlib.Core.List.{List, [], _∷_}
 use mathlib.Core.Path.{_≡_}
 use Rattle.language.specs.Text.Classes.{settingFields}
@@ -9,7 +8,7 @@ use Rattle.language.specs.Text.Fields.{behind, join}
 use Rattle.language.specs.Text.Letters.{delay, month}
 use Rattle.language.specs.Text.Number.{byte, printNumber}
 use Rattle.nodes.specs.Rows.{settingsIn}
-use Rattle.writer.specs.Written.{classesOf, fieldText, fieldsFrom, fieldsOfRow, fieldsOfRows, slot}
+use Rattle.writer.specs.Written.{classesOf, fieldText, fieldsFrom, fieldsOfRow, slot}
 use Rattle.writer.specs.declared.rows.Shape.the-variants.{Bare, Index, Leaf, Number, Pair, Wait}
 use Rattle.writer.specs.declared.rows.Shape.{Shape}
 
@@ -32,9 +31,10 @@ monthField a b = byte "," ∷ fieldText month a b
 unfoldable pub rowText : List ℤ → List ℕ
 rowText row = join (fieldsOfRow row)
 
--- the text of the rows from row i on, up to `count` rows, each behind a comma
-abbrev pub restText : ℕ → ℕ → List ℤ → List ℕ
-restText count i nodes = behind (byte ",") (fieldsOfRows (count - i) (drop (5 * i) nodes))
+-- the comma in front of row i: the first has none
+abbrev pub commaAt : ℕ → List ℕ
+commaAt zero = []
+commaAt (suc i) = byte "," ∷ []
 
 -- ---- shapes
 

@@ -1,10 +1,9 @@
 // From the node table to text: counts the bytes, then writes them.
 ghost use mathlib.Core.Path.{_≡_};
-ghost use Prim.Native.Nat.{_*_, _+_, _≤_};
+ghost use Prim.Native.Nat.{_*_, _≤_};
 ghost use lib.ListN.{length};
 ghost use Rattle.writer.specs.Answers.{writeCall, writtenAnswer};
 ghost use Rattle.writer.specs.Put.{Put};
-ghost use Rattle.writer.specs.Shapes.{restText};
 ghost use Rattle.writer.specs.Written.{written};
 
 pub mod digits;
@@ -16,7 +15,7 @@ pub enum Written {
     NoRoom,
 }
 
-// The bytes of the text of the first `count` rows.
+// The bytes of the text of the first `count` rows: each row with a comma, but for one comma.
 pub fn text_length(nodes: &[i64], count: usize) -> usize
     requires { ⌜ (5 * count ≤ length (now nodes)) × (count ≤ 512) ⌝ }
     ensures { λ r. ⌜ r ≡ length (written count (now (nodes .entry))) ⌝ }
@@ -24,27 +23,13 @@ pub fn text_length(nodes: &[i64], count: usize) -> usize
     if count == 0 {
         return 0;
     }
-    let mut sum = rows::row_length(nodes, 0);
-    let mut i: usize = 1;
+    let mut sum: usize = 0;
+    let mut i: usize = 0;
     while i < count {
         sum = sum + 1 + rows::row_length(nodes, 5 * i);
         i += 1;
     }
-    sum
-}
-
-// Writes the rows behind the first, each behind a comma.
-fn put_rest(nodes: &[i64], count: usize, out: &mut [u8], at: usize) -> usize
-    requires { ⌜ (5 * count ≤ length (now nodes)) × (at + length (restText count 1 (now nodes)) ≤ length (now out)) ⌝ }
-    ensures { λ r. ⌜ Put (now (out .entry)) (now (out .exit)) at r (restText count 1 (now (nodes .entry))) ⌝ }
-{
-    let mut place = at;
-    let mut i: usize = 1;
-    while i < count {
-        place = rows::put_next_row(nodes, 5 * i, out, place);
-        i += 1;
-    }
-    place
+    sum - 1
 }
 
 // Writes the text of the first `count` rows from the first byte on.
@@ -52,11 +37,14 @@ fn put_text(nodes: &[i64], count: usize, out: &mut [u8]) -> usize
     requires { ⌜ (5 * count ≤ length (now nodes)) × (length (written count (now nodes)) ≤ length (now out)) ⌝ }
     ensures { λ r. ⌜ Put (now (out .entry)) (now (out .exit)) 0 r (written count (now (nodes .entry))) ⌝ }
 {
-    if count == 0 {
-        return 0;
+    let mut place: usize = 0;
+    let mut i: usize = 0;
+    while i < count {
+        place = rows::put_comma(i, out, place);
+        place = rows::put_row(nodes, 5 * i, out, place);
+        i += 1;
     }
-    let at = rows::put_row(nodes, 0, out, 0);
-    put_rest(nodes, count, out, at)
+    place
 }
 
 // The text of the first `count` rows into `out`, or no byte of it where it does not fit.

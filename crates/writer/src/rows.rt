@@ -1,13 +1,10 @@
 // Rows of the node table as text.
 ghost use mathlib.Core.Path.{_≡_};
-ghost use mathlib.Core.Bool.{true};
 ghost use Prim.Native.Nat.{_+_, _<_, _≤_};
 ghost use lib.ListN.{drop, length};
-ghost use mathlib.Core.List.{_∷_};
 ghost use Rattle.writer.specs.Put.{Put};
-ghost use Rattle.writer.specs.Shapes.{ShapeOf, rowText};
+ghost use Rattle.writer.specs.Shapes.{ShapeOf, commaAt, rowText};
 ghost use Rattle.writer.specs.Written.{letterByte, slot};
-ghost use Rattle.writer.specs.declared.rows.Shape.the-variants.{Bare};
 use crate::digits;
 use crate::fields;
 
@@ -53,23 +50,8 @@ pub fn shape_of(letter: u8) -> Shape
     }
 }
 
-// Whether a row with this letter has no fields.
-pub fn is_bare(letter: u8) -> bool
-    ensures { λ r. ⌜ (r ≡ true → ShapeOf letter Bare) ⌝ }
-{
-    let shape = shape_of(letter);
-    match shape {
-        Shape::Bare => true,
-        Shape::Number => false,
-        Shape::Pair => false,
-        Shape::Wait => false,
-        Shape::Index => false,
-        Shape::Leaf => false,
-    }
-}
-
-// The bytes of the row at j, field by field.
-fn fields_length(nodes: &[i64], j: usize) -> usize
+// The bytes of the row at j, without a comma in front.
+pub fn row_length(nodes: &[i64], j: usize) -> usize
     requires { ⌜ j + 5 ≤ length (now nodes) ⌝ }
     ensures { λ r. ⌜ (r ≡ length (rowText (drop j (now (nodes .entry))))) × (r ≤ 900) ⌝ }
 {
@@ -88,18 +70,6 @@ fn fields_length(nodes: &[i64], j: usize) -> usize
             + fields::month_length(nodes, j + 1)
             + digits::number_length(nodes, j + 3)
             + digits::number_length(nodes, j + 4),
-    }
-}
-
-// The bytes of the row at j, without a comma in front.
-pub fn row_length(nodes: &[i64], j: usize) -> usize
-    requires { ⌜ j + 5 ≤ length (now nodes) ⌝ }
-    ensures { λ r. ⌜ (r ≡ length (rowText (drop j (now (nodes .entry))))) × (r ≤ 900) ⌝ }
-{
-    if is_bare(letter_byte(nodes, j)) {
-        1
-    } else {
-        fields_length(nodes, j)
     }
 }
 
@@ -132,17 +102,14 @@ pub fn put_row(nodes: &[i64], j: usize, out: &mut [u8], at: usize) -> usize
     }
 }
 
-// Writes the row at j behind a comma.
-pub fn put_next_row(nodes: &[i64], j: usize, out: &mut [u8], at: usize) -> usize
-    requires { ⌜ (j + 5 ≤ length (now nodes)) × (at + length (44 ∷ rowText (drop j (now nodes))) ≤ length (now out)) ⌝ }
-    ensures { λ r. ⌜ Put (now (out .entry)) (now (out .exit)) at r (44 ∷ rowText (drop j (now (nodes .entry)))) ⌝ }
+// Writes the comma in front of row i: the first has none.
+pub fn put_comma(i: usize, out: &mut [u8], at: usize) -> usize
+    requires { ⌜ at + length (commaAt i) ≤ length (now out) ⌝ }
+    ensures { λ r. ⌜ Put (now (out .entry)) (now (out .exit)) at r (commaAt i) ⌝ }
 {
-    let letter = letter_byte(nodes, j);
-    out[at] = b',';
-    if is_bare(letter) {
-        out[at + 1] = letter;
-        at + 2
-    } else {
-        put_row(nodes, j, out, at + 1)
+    if i == 0 {
+        return at;
     }
+    out[at] = b',';
+    at + 1
 }

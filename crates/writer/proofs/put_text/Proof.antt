@@ -1,48 +1,64 @@
--- `put_text` meets its contract.
-use Prim.Native.Nat.{_+_, _≤_, ℕ}
-use borrow.Author.Needs.{needs}
-use lib.ListN.{length}
-use mathlib.Core.List.{List, _++_}
-use mathlib.Core.Path.{_≡_, sym}
+-- `put_text` meets its contract. The invariant: the text of the first i rows stands in the buffer.
+use Prim.Native.Nat.{_-_, _≤_}
 use native.Mathlib.Omega.{arith}
-use Rattle.writer.proofs.Puts.{none, room-as, room-first, room-next, said, then}
-use Rattle.writer.proofs.Texts.{text-none, text-parts}
+use Rattle.writer.proofs.Puts.{kept}
+use Rattle.writer.proofs.Texts.{comma-room, row-put, row-room, text-ends, text-starts}
 use Rattle.writer.proofs.put_text.Statement.{statement}
 use Rattle.writer.proofs.put_text.Tie as tie
-use Rattle.writer.specs.Shapes.{restText, rowText}
+use Rattle.writer.specs.Put.{Put}
 use Rattle.writer.specs.Written.{written}
 
-module _ (c : tie.Else1) where
-  abbrev first : List ℕ
-  first = rowText (c .before .before .args .nodes .now)
+abbrev Inv-loop : tie.InvT-loop
+Inv-loop nodes count out₀ place₀ i₀ out place i = (i ≤ count) × Put out₀ out 0 place (written i nodes)
 
-  abbrev rest : List ℕ
-  rest = restText (c .before .before .args .count) 1 (c .before .before .args .nodes .now)
+abbrev μ-loop : tie.MeasureT-loop
+μ-loop nodes count out₀ place₀ i₀ out place i = count - i
 
-  parts : written (c .before .before .args .count) (c .before .before .args .nodes .now) ≡ first ++ rest
-  parts = text-parts _ _ (c .if1 .left)
+loop-holds : tie.Need-loop-holds Inv-loop μ-loop
+loop-holds c = (omega arith, text-starts _)
 
-  room : 0 + length (first ++ rest) ≤ length (c .before .before .args .out .now)
-  room = room-as 0 _ _ _ parts (omega (arith, c .before .before .pre .1))
+put-comma-requires : tie.Need-put-comma-requires Inv-loop μ-loop
+put-comma-requires c κs = comma-room _ _ _ (c .before .loop-test .taken) (c .before .before .before .before .pre .1) (c .before .before .loop .inv .1)
 
-returns : tie.Need-returns
-returns c = said (sym (text-none _ _ (c .if1 .taken))) none
+mul-put-row : tie.Need-mul-put-row Inv-loop μ-loop
+mul-put-row c = record { fits = omega (arith, c .before .before .before .before .before .before .before .pre .0, c .before .before .before .before .loop-test .taken) }
 
-put-row-requires : tie.Need-put-row-requires
-put-row-requires c κs = let s : tie.Else1 = c .before in
-    (omega (arith, c .before .before .before .pre .0), room-first _ _ (first s) (rest s) (room s))
+put-row-requires : tie.Need-put-row-requires Inv-loop μ-loop
+put-row-requires c κs = (
+  omega (arith, c .before .before .before .before .before .before .before .before .pre .0, c .before .before .before .before .before .loop-test .taken),
+  row-room _ _ _ (c .before .before .before .before .before .loop-test .taken) (c .before .before .before .before .before .before .before .before .pre .1) (c .before .before .before .before .before .before .loop .inv .1) (c .before .before .before .put-comma .ensures),
+)
 
-put-rest-requires : tie.Need-put-rest-requires
-put-rest-requires c κs = let s : tie.Else1 = c .before .before .before .before .before in
-    (s .before .before .pre .0, room-next _ (room s) (c .before .before .before .put-row .ensures))
+add-i : tie.Need-add-i Inv-loop μ-loop
+add-i c = record { fits = omega (arith, c .before .before .before .before .before .before .before .before .loop-test .taken) }
 
-same-length : tie.Need-same-length
-same-length c = search needs
+loop-less : tie.Need-loop-less Inv-loop μ-loop
+loop-less c = omega (arith, c .before .before .before .before .before .before .before .before .loop-test .taken)
 
-returns-2 : tie.Need-returns-2
-returns-2 c = said (sym (parts (c .before .before .before .before .before .before .before .before)))
-    (then (c .before .before .before .before .before .before .put-row .ensures) (c .before .before .put-rest .ensures))
+loop-again : tie.Need-loop-again Inv-loop μ-loop
+loop-again c = (
+  omega (arith, c .before .before .before .before .before .before .before .before .loop-test .taken),
+  row-put _ _ _ (c .before .before .before .before .before .before .before .before .loop-test .taken) (c .before .before .before .before .before .before .before .before .before .before .before .pre .1) (c .before .before .before .before .before .before .before .before .before .loop .inv .1) (c .before .before .before .before .before .before .put-comma .ensures) (c .before .before .put-row .ensures),
+)
+
+same-length : tie.Need-same-length Inv-loop μ-loop
+same-length c = kept (c .before .loop .inv .1)
+
+returns : tie.Need-returns Inv-loop μ-loop
+returns c = text-ends _ _ _ (c .before .loop .inv .0) (c .loop-test .left) (c .before .loop .inv .1)
 
 pub put-text-spec : {M : Type 1} → statement M
 put-text-spec =
-    tie.close (tie.spec returns put-row-requires put-rest-requires same-length returns-2)
+    tie.close
+    (tie.spec
+    Inv-loop
+    μ-loop
+    loop-holds
+    put-comma-requires
+    mul-put-row
+    put-row-requires
+    add-i
+    loop-less
+    loop-again
+    same-length
+    returns)
