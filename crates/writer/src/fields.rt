@@ -137,5 +137,9 @@ pub fn put_field_by(pairs: &[u8; 200], nodes: &[i64], k: usize, out: &mut [u8], 
     ensures { λ r. ⌜ Put (now (out .entry)) (now (out .exit)) at r (numberField (slot (now (nodes .entry)) k)) ⌝ }
 {
     out[at] = b',';
-    digits::put_number_by(pairs, nodes, k, out, at + 1)
+    if digits::is_digit(nodes, k) {
+        digits::put_digit(nodes, k, out, at + 1)
+    } else {
+        digits::put_number_by(pairs, nodes, k, out, at + 1)
+    }
 }
