@@ -7,16 +7,19 @@ use lib.Signed.{ltZ, nonNeg}
 use mathlib.Core.Bool.{Bool, cond, false, true, true≢false}
 use mathlib.Core.List.{List, [], _∷_}
 use mathlib.Core.Option.{some}
-use mathlib.Core.Path.{_≡_, ap, refl, sym}
+use mathlib.Core.Path.{_∙_, _≡_, ap, refl, subst, sym}
 use mir.Facts.{toZ-ofZ}
 use mir.Syntax.{w64, w8}
-use mir.Val.{Fits, SFits}
+use mir.Val.{Fits, SFits, ofZ, toZ}
 use native.Mathlib.Omega.{arith}
 use Rattle.language.specs.Text.Letters.{AmountLetter, Class, Form, Letter, PayoffLetter, PlanLetter, TestLetter, amountRow, letterAmong, letterIn, ofAmount, ofRoot, ofTest, payoffForm, payoffRow, planForm, planRow, rootsThen, rowOf, testRow}
+use Rattle.language.specs.Text.Number.{between}
+use Rattle.nodes.proofs.Signed.{key}
 use Rattle.writer.proofs.Numbers.{rd}
 use Rattle.writer.specs.Shapes.{ShapeOf, shapeFields}
 use Rattle.writer.specs.Written.{classesOf, classesOr, fieldsFrom, letterByte}
 use Rattle.writer.specs.declared.rows.Shape.the-variants.{Bare, Index, Leaf, Number, Pair, Wait}
+use Rattle.writer.specs.declared.rows.Shape.{Shape}
 
 -- ---- the byte
 
@@ -140,3 +143,17 @@ no-classes b o =
 pub others-bare : (b : ℕ) → Others b → ShapeOf b Bare
 unfolding fieldsFrom shapeFields
 others-bare b o = record { fields = λ row. ap (λ (cs : List Class). fieldsFrom cs 1 row) (no-classes b o) }
+
+-- ---- a letter as the row has it
+
+pub keyed : (z : ℤ) (n : ℕ) {s : Shape} → SFits w64 z → ofZ w64 z ≡ n → letterByte (toZ w64 n) ≡ n → ShapeOf n s → ShapeOf (letterByte z) s
+keyed z n {s} f e b h = subst (λ (x : ℕ). ShapeOf x s) (sym (ap letterByte (key f e) ∙ b)) h
+
+-- a number that is not n is not written as n, but for the question mark
+pub no-letter : (z : ℤ) (n : ℕ) → (n ≡ 63 → ⊥) → (ofZ w64 z ≡ n → ⊥) → letterByte z ≡ n → ⊥
+no-letter (pos a) n q h e = by (between (pos 0) (pos 255) (pos a)) e
+  where
+    by : (t : Bool) → cond t a 63 ≡ n → ⊥
+    by true e = h e
+    by false e = q (sym e)
+no-letter (negsuc a) n q h e = q (sym e)

@@ -4,7 +4,7 @@ use lib.IntN.{pos, ℤ}
 use lib.ListN.{drop, length, length-append}
 use lib.Seq.{getD-drop}
 use mathlib.Core.List.{List, [], _++_, _∷_}
-use mathlib.Core.Path.{_∙_, _≡_, ap, refl, sym}
+use mathlib.Core.Path.{_∙_, _≡_, ap, refl, subst, sym}
 use native.Mathlib.Omega.{arith}
 use Rattle.language.specs.Text.Fields.{behind, joinWith}
 use Rattle.writer.specs.Shapes.{ShapeOf, commaAt, delayField, monthField, numberField, rowText, shapeFields}
@@ -34,11 +34,12 @@ module _ (nodes : List ℤ) (j : ℕ) where
   parts-are Index = rw (here 1 (j + 1) refl, here 2 (j + 2) refl, here 3 (j + 2 + 1) (omega arith))
   parts-are Leaf = rw (here 1 (j + 1) refl, here 2 (j + 1 + 1) (omega arith), here 3 (j + 3) refl, here 4 (j + 4) refl)
 
-  pub row-at : (b : ℕ) → b ≡ letterByte (slot nodes j) → (s : Shape) → ShapeOf b s → (t : Shape) → s ≡ t → rowText (drop j nodes) ≡ b ∷ partsAt t j nodes
+  pub row-at : (b : ℕ) → b ≡ letterByte (slot nodes j) → (s : Shape) → ShapeOf (letterByte (slot nodes j)) s → (t : Shape) → s ≡ t → rowText (drop j nodes) ≡ b ∷ partsAt t j nodes
   unfolding rowText fieldsOfRow joinWith
   row-at b q s h t e =
+      let f : ShapeOf b s = subst (λ (x : ℕ). ShapeOf x s) (sym q) h in
       let l : letterByte (slot (drop j nodes) 0) ≡ b = ap letterByte (here 0 j (omega arith)) ∙ sym q in
-      rw l (ap (λ (fs : List (List ℕ)). b ∷ behind 44 fs) (h .fields (drop j nodes))
+      rw l (ap (λ (fs : List (List ℕ)). b ∷ behind 44 fs) (f .fields (drop j nodes))
       ∙ ap (λ (u : Shape). b ∷ behind 44 (shapeFields u (drop j nodes))) e ∙ ap (λ (r : List ℕ). b ∷ r) (parts-are t))
 
 -- ---- the comma in front

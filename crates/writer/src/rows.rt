@@ -33,19 +33,21 @@ pub fn letter_byte(nodes: &[i64], k: usize) -> u8
     z as u8
 }
 
-// Which fields a row with this letter has.
-pub fn shape_of(letter: u8) -> Shape
-    ensures { λ r. ⌜ ShapeOf letter r ⌝ }
+// Which fields the row has whose letter stands at k: N and Q, T, L and W, O, F and H have some.
+pub fn shape_at(nodes: &[i64], k: usize) -> Shape
+    requires { ⌜ k < length (now nodes) ⌝ }
+    ensures { λ r. ⌜ ShapeOf (letterByte (slot (now (nodes .entry)) k)) r ⌝ }
 {
+    let letter = nodes[k];
     match letter {
-        b'N' => Shape::Number,
-        b'Q' => Shape::Number,
-        b'T' => Shape::Pair,
-        b'L' => Shape::Wait,
-        b'W' => Shape::Wait,
-        b'O' => Shape::Index,
-        b'F' => Shape::Leaf,
-        b'H' => Shape::Leaf,
+        78 => Shape::Number,
+        81 => Shape::Number,
+        84 => Shape::Pair,
+        76 => Shape::Wait,
+        87 => Shape::Wait,
+        79 => Shape::Index,
+        70 => Shape::Leaf,
+        72 => Shape::Leaf,
         _ => Shape::Bare,
     }
 }
@@ -55,7 +57,7 @@ pub fn row_length(nodes: &[i64], j: usize) -> usize
     requires { ⌜ j + 5 ≤ length (now nodes) ⌝ }
     ensures { λ r. ⌜ (r ≡ length (rowText (drop j (now (nodes .entry))))) × (r ≤ 900) ⌝ }
 {
-    let shape = shape_of(letter_byte(nodes, j));
+    let shape = shape_at(nodes, j);
     match shape {
         Shape::Bare => 1,
         Shape::Number => 2 + digits::number_length(nodes, j + 1),
@@ -79,7 +81,7 @@ pub fn put_row(nodes: &[i64], j: usize, out: &mut [u8], at: usize) -> usize
     ensures { λ r. ⌜ Put (now (out .entry)) (now (out .exit)) at r (rowText (drop j (now (nodes .entry)))) ⌝ }
 {
     let letter = letter_byte(nodes, j);
-    let shape = shape_of(letter);
+    let shape = shape_at(nodes, j);
     out[at] = letter;
     let place = at + 1;
     match shape {

@@ -15,7 +15,7 @@ use Rattle.writer.specs.Written.{slot}
 use Rattle.writer.specs.declared.rows.Shape.the-variants.{Bare, Index, Leaf, Number, Pair, Wait}
 use Rattle.writer.specs.declared.rows.Shape.{Shape}
 
-module _ (c : tie.After-shape-of) where
+module _ (c : tie.After-shape-at) where
   abbrev start : tie.Start
   start = c .before .before .before
 
@@ -32,13 +32,13 @@ module _ (c : tie.After-shape-of) where
   abbrev settings : ℕ → ℤ
   settings k = slot nodes (j + k + 1)
 
-  text : (t : Shape) → c .shape-of .result ≡ t → rowText (drop j nodes) ≡ c .before .letter-byte .result ∷ partsAt t j nodes
-  text t e = row-at nodes j _ (c .before .letter-byte .ensures) _ (c .shape-of .ensures) t e
+  text : (t : Shape) → c .shape-at .result ≡ t → rowText (drop j nodes) ≡ c .before .letter-byte .result ∷ partsAt t j nodes
+  text t e = row-at nodes j _ (c .before .letter-byte .ensures) _ (c .shape-at .ensures) t e
 
-  room-text : (t : Shape) → c .shape-of .result ≡ t → start .args .at + length (c .before .letter-byte .result ∷ partsAt t j nodes) ≤ length (start .args .out .now)
+  room-text : (t : Shape) → c .shape-at .result ≡ t → start .args .at + length (c .before .letter-byte .result ∷ partsAt t j nodes) ≤ length (start .args .out .now)
   room-text t e = room-as _ _ _ _ (text t e) (start .pre .1)
 
-  room : (t : Shape) → c .shape-of .result ≡ t → start .args .at + 1 + length (partsAt t j nodes) ≤ length (set (start .args .out .now) (start .args .at) (c .before .letter-byte .result))
+  room : (t : Shape) → c .shape-at .result ≡ t → start .args .at + 1 + length (partsAt t j nodes) ≤ length (set (start .args .out .now) (start .args .at) (c .before .letter-byte .result))
   room t e = room-front (start .args .at) (c .before .letter-byte .result) (partsAt t j nodes) (start .args .out .now) (room-text t e) .1
 
   -- fields with their commas
@@ -51,11 +51,11 @@ module _ (c : tie.After-shape-of) where
 letter-byte-requires : tie.Need-letter-byte-requires
 letter-byte-requires c κs = search needs
 
-shape-of-requires : tie.Need-shape-of-requires
-shape-of-requires c κs = search needs
+shape-at-requires : tie.Need-shape-at-requires
+shape-at-requires c κs = search needs
 
 slice-write-out : tie.Need-slice-write-out
-slice-write-out c = room-front _ (c .before .letter-byte .result) (partsAt (c .shape-of .result) (j c) (nodes c)) (start c .args .out .now) (room-text c _ refl) .0
+slice-write-out c = room-front _ (c .before .letter-byte .result) (partsAt (c .shape-at .result) (j c) (nodes c)) (start c .args .out .now) (room-text c _ refl) .0
 
 add-place : tie.Need-add-place
 add-place c = search needs
@@ -70,7 +70,7 @@ add-put-field : tie.Need-add-put-field
 add-put-field c = search needs
 
 put-field-requires : tie.Need-put-field-requires
-put-field-requires c κs = let s : tie.After-shape-of = c .before .before .before in (
+put-field-requires c κs = let s : tie.After-shape-at = c .before .before .before in (
   omega (arith, start s .pre .0),
   room-first _ _ (number s 1) []
       (room s Number (c .before .enum-told2 .given .1)),
@@ -83,7 +83,7 @@ add-put-field-2 : tie.Need-add-put-field-2
 add-put-field-2 c = search needs
 
 put-field-requires-2 : tie.Need-put-field-requires-2
-put-field-requires-2 c κs = let s : tie.After-shape-of = c .before .before .before in (
+put-field-requires-2 c κs = let s : tie.After-shape-at = c .before .before .before in (
   omega (arith, start s .pre .0),
   room-first _ _ (number s 1) ((number s 2) ++ [])
       (room s Pair (c .before .enum-told3 .given .1)),
@@ -93,7 +93,7 @@ add-put-field-3 : tie.Need-add-put-field-3
 add-put-field-3 c = search needs
 
 put-field-requires-3 : tie.Need-put-field-requires-3
-put-field-requires-3 c κs = let s : tie.After-shape-of = c .before .before .before .before .before .before .before in (
+put-field-requires-3 c κs = let s : tie.After-shape-at = c .before .before .before .before .before .before .before in (
   omega (arith, start s .pre .0),
   room-first _ _ (number s 2) []
       (room-next _
@@ -108,7 +108,7 @@ add-put-delay : tie.Need-add-put-delay
 add-put-delay c = search needs
 
 put-delay-requires : tie.Need-put-delay-requires
-put-delay-requires c κs = let s : tie.After-shape-of = c .before .before .before in (
+put-delay-requires c κs = let s : tie.After-shape-at = c .before .before .before in (
   omega (arith, start s .pre .0),
   room-first _ _ (delayField (figure s 1)) []
       (room s Wait (c .before .enum-told4 .given .1)),
@@ -121,7 +121,7 @@ add-put-field-4 : tie.Need-add-put-field-4
 add-put-field-4 c = search needs
 
 put-field-requires-4 : tie.Need-put-field-requires-4
-put-field-requires-4 c κs = let s : tie.After-shape-of = c .before .before .before in (
+put-field-requires-4 c κs = let s : tie.After-shape-at = c .before .before .before in (
   omega (arith, start s .pre .0),
   room-first _ _ (number s 1) ((months s 2) ++ [])
       (room s Index (c .before .enum-told5 .given .1)),
@@ -131,7 +131,7 @@ add-put-month : tie.Need-add-put-month
 add-put-month c = search needs
 
 put-month-requires : tie.Need-put-month-requires
-put-month-requires c κs = let s : tie.After-shape-of = c .before .before .before .before .before .before .before in (
+put-month-requires c κs = let s : tie.After-shape-at = c .before .before .before .before .before .before .before in (
   omega (arith, start s .pre .0),
   room-first _ _ (months s 2) []
       (room-next _
@@ -146,7 +146,7 @@ add-put-month-2 : tie.Need-add-put-month-2
 add-put-month-2 c = search needs
 
 put-month-requires-2 : tie.Need-put-month-requires-2
-put-month-requires-2 c κs = let s : tie.After-shape-of = c .before .before .before in (
+put-month-requires-2 c κs = let s : tie.After-shape-at = c .before .before .before in (
   omega (arith, start s .pre .0),
   room-first _ _ (months s 1) ((number s 3) ++ ((number s 4) ++ []))
       (room s Leaf (c .before .enum-told6 .given .1)),
@@ -156,7 +156,7 @@ add-put-field-5 : tie.Need-add-put-field-5
 add-put-field-5 c = search needs
 
 put-field-requires-5 : tie.Need-put-field-requires-5
-put-field-requires-5 c κs = let s : tie.After-shape-of = c .before .before .before .before .before .before .before in (
+put-field-requires-5 c κs = let s : tie.After-shape-at = c .before .before .before .before .before .before .before in (
   omega (arith, start s .pre .0),
   room-first _ _ (number s 3) ((number s 4) ++ [])
       (room-next _
@@ -168,7 +168,7 @@ add-put-field-6 : tie.Need-add-put-field-6
 add-put-field-6 c = search needs
 
 put-field-requires-6 : tie.Need-put-field-requires-6
-put-field-requires-6 c κs = let s : tie.After-shape-of = c .before .before .before .before .before .before .before .before .before .before .before in (
+put-field-requires-6 c κs = let s : tie.After-shape-at = c .before .before .before .before .before .before .before .before .before .before .before in (
   omega (arith, start s .pre .0),
   room-first _ _ (number s 4) []
       (room-next _
@@ -182,21 +182,21 @@ same-length : tie.Need-same-length
 same-length c = search needs
 
 returns : tie.Need-returns
-returns c = let s : tie.After-shape-of = c .before .before in
+returns c = let s : tie.After-shape-at = c .before .before in
     said (sym (text s Bare (c .enum-told .given .1))) (one _ _ _)
 
 same-length-2 : tie.Need-same-length-2
 same-length-2 c = c .before .before .put-field .kept .1 .1 .0 ∙ simp length-set
 
 returns-2 : tie.Need-returns-2
-returns-2 c = let s : tie.After-shape-of = c .before .before .before .before .before .before in
+returns-2 c = let s : tie.After-shape-at = c .before .before .before .before .before .before in
     said (sym (text s Number (c .before .before .before .before .enum-told2 .given .1))) (then (one _ _ _) (then (c .before .before .put-field .ensures) none))
 
 same-length-3 : tie.Need-same-length-3
 same-length-3 c = c .before .before .put-field3 .kept .1 .1 .0 ∙ c .before .before .before .before .before .before .put-field2 .kept .1 .1 .0 ∙ simp length-set
 
 returns-3 : tie.Need-returns-3
-returns-3 c = let s : tie.After-shape-of = c .before .before .before .before .before .before .before .before .before .before in
+returns-3 c = let s : tie.After-shape-at = c .before .before .before .before .before .before .before .before .before .before in
     said (sym (text s Pair (c .before .before .before .before .before .before .before .before .enum-told3 .given .1)))
     (then (one _ _ _) (then (c .before .before .before .before .before .before .put-field2 .ensures) (then (c .before .before .put-field3 .ensures) none)))
 
@@ -204,14 +204,14 @@ same-length-4 : tie.Need-same-length-4
 same-length-4 c = c .before .before .put-delay .kept .1 .1 .0 ∙ simp length-set
 
 returns-4 : tie.Need-returns-4
-returns-4 c = let s : tie.After-shape-of = c .before .before .before .before .before .before in
+returns-4 c = let s : tie.After-shape-at = c .before .before .before .before .before .before in
     said (sym (text s Wait (c .before .before .before .before .enum-told4 .given .1))) (then (one _ _ _) (then (c .before .before .put-delay .ensures) none))
 
 same-length-5 : tie.Need-same-length-5
 same-length-5 c = c .before .before .put-month .kept .1 .1 .0 ∙ c .before .before .before .before .before .before .put-field4 .kept .1 .1 .0 ∙ simp length-set
 
 returns-5 : tie.Need-returns-5
-returns-5 c = let s : tie.After-shape-of = c .before .before .before .before .before .before .before .before .before .before in
+returns-5 c = let s : tie.After-shape-at = c .before .before .before .before .before .before .before .before .before .before in
     said (sym (text s Index (c .before .before .before .before .before .before .before .before .enum-told5 .given .1)))
     (then (one _ _ _) (then (c .before .before .before .before .before .before .put-field4 .ensures) (then (c .before .before .put-month .ensures) none)))
 
@@ -220,7 +220,7 @@ same-length-6 c = c .before .before .put-field6 .kept .1 .1 .0 ∙ c .before .be
     ∙ c .before .before .before .before .before .before .before .before .before .before .put-month2 .kept .1 .1 .0 ∙ simp length-set
 
 returns-6 : tie.Need-returns-6
-returns-6 c = let s : tie.After-shape-of = c .before .before .before .before .before .before .before .before .before .before .before .before .before .before in
+returns-6 c = let s : tie.After-shape-at = c .before .before .before .before .before .before .before .before .before .before .before .before .before .before in
     said (sym (text s Leaf (c .before .before .before .before .before .before .before .before .before .before .before .before .enum-told6 .given .1)))
     (then (one _ _ _) (then (c .before .before .before .before .before .before .before .before .before .before .put-month2 .ensures)
     (then (c .before .before .before .before .before .before .put-field5 .ensures) (then (c .before .before .put-field6 .ensures) none))))
@@ -230,7 +230,7 @@ put-row-spec =
     tie.close
     (tie.spec
     letter-byte-requires
-    shape-of-requires
+    shape-at-requires
     slice-write-out
     add-place
     enum-told

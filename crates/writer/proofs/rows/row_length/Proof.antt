@@ -4,7 +4,7 @@ use borrow.Author.Needs.{needs}
 use lib.IntN.{ℤ}
 use lib.ListN.{drop, length}
 use mathlib.Core.List.{List, _∷_}
-use mathlib.Core.Path.{_≡_}
+use mathlib.Core.Path.{_≡_, refl}
 use native.Mathlib.Omega.{arith}
 use Rattle.language.specs.Text.Letters.{delay, month}
 use Rattle.language.specs.Text.Number.{printNumber}
@@ -13,13 +13,13 @@ use Rattle.writer.proofs.RowTexts.{long-0, long-1, long-2, long-3, part
 use Rattle.writer.proofs.rows.row_length.Statement.{statement}
 use Rattle.writer.proofs.rows.row_length.Tie as tie
 use Rattle.writer.specs.Shapes.{rowText}
-use Rattle.writer.specs.Written.{fieldText, slot}
+use Rattle.writer.specs.Written.{fieldText, letterByte, slot}
 use Rattle.writer.specs.declared.rows.Shape.the-variants.{Bare, Index, Leaf, Number, Pair, Wait}
 use Rattle.writer.specs.declared.rows.Shape.{Shape}
 
-module _ (c : tie.After-shape-of) where
+module _ (c : tie.After-shape-at) where
   abbrev start : tie.Start
-  start = c .before .before
+  start = c .before
 
   abbrev nodes : List ℤ
   nodes = start .args .nodes .now
@@ -34,8 +34,8 @@ module _ (c : tie.After-shape-of) where
   abbrev settings : ℕ → ℤ
   settings k = slot nodes (j + k + 1)
 
-  text : (t : Shape) → c .shape-of .result ≡ t → rowText (drop j nodes) ≡ c .before .letter-byte .result ∷ partsAt t j nodes
-  text t e = row-at nodes j _ (c .before .letter-byte .ensures) _ (c .shape-of .ensures) t e
+  text : (t : Shape) → c .shape-at .result ≡ t → rowText (drop j nodes) ≡ letterByte (slot nodes j) ∷ partsAt t j nodes
+  text t e = row-at nodes j _ refl _ (c .shape-at .ensures) t e
 
   number-few : (k : ℕ) {r : ℕ} → r ≡ length (printNumber (figure k)) → r ≤ 21
   number-few k {r} e = number-small (figure k) r e
@@ -46,11 +46,8 @@ module _ (c : tie.After-shape-of) where
   month-few : (k : ℕ) {r : ℕ} → r ≡ length (fieldText month (figure k) (settings k)) → r ≤ 800
   month-few k {r} e = month-small (figure k) (settings k) r e
 
-letter-byte-requires : tie.Need-letter-byte-requires
-letter-byte-requires c κs = search needs
-
-shape-of-requires : tie.Need-shape-of-requires
-shape-of-requires c κs = search needs
+shape-at-requires : tie.Need-shape-at-requires
+shape-at-requires c κs = search needs
 
 enum-told : tie.Need-enum-told
 enum-told c = search needs
@@ -65,7 +62,7 @@ number-length-requires : tie.Need-number-length-requires
 number-length-requires c κs = search needs
 
 add-result : tie.Need-add-result
-add-result c = let s : tie.After-shape-of = c .before .before .before in
+add-result c = let s : tie.After-shape-at = c .before .before .before in
     record { fits = omega (arith, number-few s 1 (c .number-length .ensures)) }
 
 enum-told-3 : tie.Need-enum-told-3
@@ -78,7 +75,7 @@ number-length-requires-2 : tie.Need-number-length-requires-2
 number-length-requires-2 c κs = search needs
 
 add-result-2 : tie.Need-add-result-2
-add-result-2 c = let s : tie.After-shape-of = c .before .before .before in
+add-result-2 c = let s : tie.After-shape-at = c .before .before .before in
     record { fits = omega (arith, number-few s 1 (c .number-length2 .ensures)) }
 
 add-number-length-3 : tie.Need-add-number-length-3
@@ -88,7 +85,7 @@ number-length-requires-3 : tie.Need-number-length-requires-3
 number-length-requires-3 c κs = search needs
 
 add-result-3 : tie.Need-add-result-3
-add-result-3 c = let s : tie.After-shape-of = c .before .before .before .before in
+add-result-3 c = let s : tie.After-shape-at = c .before .before .before .before in
     record { fits = omega (arith, number-few s 1 (c .before .number-length2 .ensures), number-few s 2 (c .number-length3 .ensures)) }
 
 enum-told-4 : tie.Need-enum-told-4
@@ -101,7 +98,7 @@ delay-length-requires : tie.Need-delay-length-requires
 delay-length-requires c κs = search needs
 
 add-result-4 : tie.Need-add-result-4
-add-result-4 c = let s : tie.After-shape-of = c .before .before .before in
+add-result-4 c = let s : tie.After-shape-at = c .before .before .before in
     record { fits = omega (arith, delay-few s 1 (c .delay-length .ensures)) }
 
 enum-told-5 : tie.Need-enum-told-5
@@ -114,7 +111,7 @@ number-length-requires-4 : tie.Need-number-length-requires-4
 number-length-requires-4 c κs = search needs
 
 add-result-5 : tie.Need-add-result-5
-add-result-5 c = let s : tie.After-shape-of = c .before .before .before in
+add-result-5 c = let s : tie.After-shape-at = c .before .before .before in
     record { fits = omega (arith, number-few s 1 (c .number-length4 .ensures)) }
 
 add-month-length : tie.Need-add-month-length
@@ -124,7 +121,7 @@ month-length-requires : tie.Need-month-length-requires
 month-length-requires c κs = search needs
 
 add-result-6 : tie.Need-add-result-6
-add-result-6 c = let s : tie.After-shape-of = c .before .before .before .before in
+add-result-6 c = let s : tie.After-shape-at = c .before .before .before .before in
     record { fits = omega (arith, number-few s 1 (c .before .number-length4 .ensures), month-few s 2 (c .month-length .ensures)) }
 
 enum-told-6 : tie.Need-enum-told-6
@@ -137,7 +134,7 @@ month-length-requires-2 : tie.Need-month-length-requires-2
 month-length-requires-2 c κs = search needs
 
 add-result-7 : tie.Need-add-result-7
-add-result-7 c = let s : tie.After-shape-of = c .before .before .before in
+add-result-7 c = let s : tie.After-shape-at = c .before .before .before in
     record { fits = omega (arith, month-few s 1 (c .month-length2 .ensures)) }
 
 add-number-length-5 : tie.Need-add-number-length-5
@@ -147,7 +144,7 @@ number-length-requires-5 : tie.Need-number-length-requires-5
 number-length-requires-5 c κs = search needs
 
 add-result-8 : tie.Need-add-result-8
-add-result-8 c = let s : tie.After-shape-of = c .before .before .before .before in
+add-result-8 c = let s : tie.After-shape-at = c .before .before .before .before in
     record { fits = omega (arith, month-few s 1 (c .before .month-length2 .ensures), number-few s 3 (c .number-length5 .ensures)) }
 
 add-number-length-6 : tie.Need-add-number-length-6
@@ -157,41 +154,41 @@ number-length-requires-6 : tie.Need-number-length-requires-6
 number-length-requires-6 c κs = search needs
 
 add-result-9 : tie.Need-add-result-9
-add-result-9 c = let s : tie.After-shape-of = c .before .before .before .before .before in
+add-result-9 c = let s : tie.After-shape-at = c .before .before .before .before .before in
     record { fits = omega (arith, month-few s 1 (c .before .before .month-length2 .ensures), number-few s 3 (c .before .number-length5 .ensures), number-few s 4 (c .number-length6 .ensures)) }
 
 returns : tie.Need-returns
-returns c = let s : tie.After-shape-of = c .before .before in
+returns c = let s : tie.After-shape-at = c .before .before in
     (long-0 _ _ (text s Bare (c .enum-told .given .1)), omega arith)
 
 returns-2 : tie.Need-returns-2
-returns-2 c = let s : tie.After-shape-of = c .before .before .before in (
+returns-2 c = let s : tie.After-shape-at = c .before .before .before in (
   long-1 _ _ _ (printNumber (figure s 1)) (c .number-length .ensures) (text s Number (c .before .enum-told2 .given .1)),
   omega (arith, number-few s 1 (c .number-length .ensures)),
 )
 
 returns-3 : tie.Need-returns-3
-returns-3 c = let s : tie.After-shape-of = c .before .before .before .before in (
+returns-3 c = let s : tie.After-shape-at = c .before .before .before .before in (
   long-2 _ _ _ _ (printNumber (figure s 1)) (printNumber (figure s 2)) (c .before .number-length2 .ensures) (c .number-length3 .ensures)
       (text s Pair (c .before .before .enum-told3 .given .1)),
   omega (arith, number-few s 1 (c .before .number-length2 .ensures), number-few s 2 (c .number-length3 .ensures)),
 )
 
 returns-4 : tie.Need-returns-4
-returns-4 c = let s : tie.After-shape-of = c .before .before .before in (
+returns-4 c = let s : tie.After-shape-at = c .before .before .before in (
   long-1 _ _ _ (fieldText delay (figure s 1) (figure s 1)) (c .delay-length .ensures) (text s Wait (c .before .enum-told4 .given .1)),
   omega (arith, delay-few s 1 (c .delay-length .ensures)),
 )
 
 returns-5 : tie.Need-returns-5
-returns-5 c = let s : tie.After-shape-of = c .before .before .before .before in (
+returns-5 c = let s : tie.After-shape-at = c .before .before .before .before in (
   long-2 _ _ _ _ (printNumber (figure s 1)) (fieldText month (figure s 2) (settings s 2)) (c .before .number-length4 .ensures) (c .month-length .ensures)
       (text s Index (c .before .before .enum-told5 .given .1)),
   omega (arith, number-few s 1 (c .before .number-length4 .ensures), month-few s 2 (c .month-length .ensures)),
 )
 
 returns-6 : tie.Need-returns-6
-returns-6 c = let s : tie.After-shape-of = c .before .before .before .before .before in (
+returns-6 c = let s : tie.After-shape-at = c .before .before .before .before .before in (
   long-3 _ _ _ _ _ (fieldText month (figure s 1) (settings s 1)) (printNumber (figure s 3)) (printNumber (figure s 4))
       (c .before .before .month-length2 .ensures) (c .before .number-length5 .ensures) (c .number-length6 .ensures)
       (text s Leaf (c .before .before .before .enum-told6 .given .1)),
@@ -202,8 +199,7 @@ pub row-length-spec : {M : Type 1} → statement M
 row-length-spec =
     tie.close
     (tie.spec
-    letter-byte-requires
-    shape-of-requires
+    shape-at-requires
     enum-told
     enum-told-2
     add-number-length
