@@ -68,7 +68,7 @@ text-more i nodes h =
 -- ---- counting
 
 -- all rows so far, each behind a comma
-behind-more : (i : ℕ) (nodes : List ℤ) → behind 44 (fieldsOfRows (i + 1) nodes) ≡ behind 44 (fieldsOfRows i nodes) ++ (44 ∷ rowText (drop (5 * i) nodes))
+pub behind-more : (i : ℕ) (nodes : List ℤ) → behind 44 (fieldsOfRows (i + 1) nodes) ≡ behind 44 (fieldsOfRows i nodes) ++ (44 ∷ rowText (drop (5 * i) nodes))
 unfolding fieldsOfRows behind
 behind-more i nodes =
     ap (behind 44) (rows-split i 1 nodes) ∙ behind-append 44 (fieldsOfRows i nodes) (fieldsOfRows 1 (drop (5 * i) nodes))

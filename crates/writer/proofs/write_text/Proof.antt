@@ -1,28 +1,57 @@
 -- `write_text` meets its contract.
+use borrow.Author.Needs.{needs}
+use mathlib.Core.Path.{refl}
 use native.Mathlib.Omega.{arith}
-use Rattle.writer.proofs.Puts.{kept}
+use Rattle.writer.proofs.Most.{text-most}
 use Rattle.writer.proofs.Whole.{no-room, whole}
 use Rattle.writer.proofs.write_text.Statement.{statement}
 use Rattle.writer.proofs.write_text.Tie as tie
 use Rattle.writer.specs.Answers.{writeCall}
 
-text-length-requires : tie.Need-text-length-requires
-text-length-requires c κs = c .before .pre
+mul-if1 : tie.Need-mul-if1
+mul-if1 c = search needs
 
 put-text-requires : tie.Need-put-text-requires
-put-text-requires c κs = (c .before .before .before .before .pre .0, omega (arith, c .before .before .text-length .ensures, c .before .if1 .left))
+put-text-requires c κs =
+    let s = c .before .before .before in
+    (s .pre .0, omega (arith, text-most (s .args .count) (s .args .nodes .now), c .before .if1 .taken))
+
+same-length : tie.Need-same-length
+same-length c = search needs
 
 returns : tie.Need-returns
 unfolding writeCall
-returns c = no-room _ _ _ (c .before .text-length .ensures) (c .if1 .taken)
+returns c =
+    let s = c .before .before .before .before .before .before in
+    whole _ _ _ refl (omega (arith, text-most (s .args .count) (s .args .nodes .now), c .before .before .before .before .if1 .taken)) _ _ (c .before .before .put-text .ensures)
 
-same-length : tie.Need-same-length
-same-length c = c .before .before .put-text .kept .1 .1 .0
+text-length-requires : tie.Need-text-length-requires
+text-length-requires c κs = search needs
+
+put-text-requires-2 : tie.Need-put-text-requires-2
+put-text-requires-2 c κs = search needs
 
 returns-2 : tie.Need-returns-2
 unfolding writeCall
-returns-2 c = whole _ _ _ (c .before .before .before .before .before .text-length .ensures) (c .before .before .before .before .if1 .left) _ _ (c .before .before .put-text .ensures)
+returns-2 c = no-room _ _ _ (c .before .text-length .ensures) (c .if2 .taken)
+
+same-length-2 : tie.Need-same-length-2
+same-length-2 c = search needs
+
+returns-3 : tie.Need-returns-3
+unfolding writeCall
+returns-3 c = whole _ _ _ (c .before .before .before .before .before .text-length .ensures) (c .before .before .before .before .if2 .left) _ _ (c .before .before .put-text2 .ensures)
 
 pub write-text-spec : {M : Type 1} → statement M
 write-text-spec =
-    tie.close (tie.spec text-length-requires put-text-requires returns same-length returns-2)
+    tie.close
+    (tie.spec
+    mul-if1
+    put-text-requires
+    same-length
+    returns
+    text-length-requires
+    put-text-requires-2
+    returns-2
+    same-length-2
+    returns-3)
