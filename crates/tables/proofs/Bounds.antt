@@ -1,5 +1,5 @@
 -- A bound's range: no further from zero than the bound.
-use Prim.Native.Nat.{_≤_, suc, zero, ℕ}
+use Prim.Native.Nat.{suc, zero, ℕ}
 use borrow.Author.Tests.{le-leb, leb-false, leb-true, lt-leb}
 use lib.Dec.{leb}
 use lib.IntN.{_-ℤ_, natAbs, negsuc, negℤ, pos, subℕ, ℤ}

@@ -1,17 +1,17 @@
 -- A number's 64 bits, and a range tested by one comparison of them.
-use Prim.Native.Nat.{_%_, _+_, _-_, _<_, _^_, _≤_, suc, ℕ}
+use Prim.Native.Nat.{_%_, _+_, _-_, _<_, _≤_, suc, ℕ}
 use borrow.Author.Tests.{le-leb, lt-leb}
 use lib.Dec.{leb}
-use lib.IntN.{_+ℤ_, natAbs, negsuc, negℤ, pos, ℤ}
+use lib.IntN.{_+ℤ_, natAbs, negsuc, pos, ℤ}
 use lib.Signed.{leZ, ltZ}
 use mathlib.Core.Bool.{Bool, _&&_, cond, false, true}
-use mathlib.Core.Path.{_∙_, _≡_, ap, refl, sym}
+use mathlib.Core.Path.{_∙_, _≡_, ap, refl}
 use mir.Facts.{toZ-ofZ}
 use mir.Syntax.{w64}
 use mir.Val.{Fits, SFits}
 use native.Mathlib.Omega.{arith}
 use Rattle.integers.proofs.Locals.{rd}
-use Rattle.integers.proofs.Negation.{add-reads, not-below}
+use Rattle.integers.proofs.Negation.{add-reads}
 use Rattle.integers.proofs.Solver.{_⊕_, dn, lit, ring, up, var}
 use Rattle.integers.proofs.Tests.{le-false, le-true, lt-false, lt-true}
 use Rattle.language.specs.Text.Number.{between}

@@ -38,7 +38,7 @@ fn word(x: i64) -> u64
     }
 }
 
-// The same by one comparison: what lies below the range is far above its first number when the difference wraps.
+// Whether x lies in the range, by one comparison: a number below the first wraps to far above the last.
 fn is_within(x: i64, range: Range) -> bool
     requires { ⌜ leZ (range .low) (range .high) ≡ true ⌝ }
     ensures { λ r. ⌜ r ≡ between (range .low) (range .high) x ⌝ }
@@ -48,7 +48,7 @@ fn is_within(x: i64, range: Range) -> bool
     std::num::wrapping_sub_u64(word(x), first) <= width
 }
 
-// Four numbers in a row.
+// Whether the four numbers from i on lie in the range.
 fn four_between(xs: &[i64], i: usize, range: Range) -> bool
     requires { ⌜ (i + 4 ≤ length (now xs)) × (leZ (range .low) (range .high) ≡ true) ⌝ }
     ensures { λ r. ⌜ allOf (between (range .low) (range .high)) (drop i (now (xs .entry))) ≡ r && allOf (between (range .low) (range .high)) (drop (i + 4) (now (xs .entry))) ⌝ }
@@ -63,7 +63,7 @@ fn four_between(xs: &[i64], i: usize, range: Range) -> bool
     false
 }
 
-// The numbers from `from` on, one by one.
+// Whether the numbers from `from` on do, one by one.
 fn rest_between(xs: &[i64], from: usize, range: Range) -> bool
     requires { ⌜ (from ≤ length (now xs)) × (leZ (range .low) (range .high) ≡ true) ⌝ }
     ensures { λ r. ⌜ r ≡ allOf (between (range .low) (range .high)) (drop from (now (xs .entry))) ⌝ }
@@ -79,7 +79,7 @@ fn rest_between(xs: &[i64], from: usize, range: Range) -> bool
     true
 }
 
-// Four at a time, then the rest.
+// Whether all numbers do: four at a time, then the rest.
 pub fn all_between(xs: &[i64], range: Range) -> bool
     requires { ⌜ leZ (range .low) (range .high) ≡ true ⌝ }
     ensures { λ r. ⌜ r ≡ allOf (between (range .low) (range .high)) (now (xs .entry)) ⌝ }

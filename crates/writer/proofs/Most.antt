@@ -11,7 +11,7 @@ use native.Mathlib.Omega.{arith}
 use Rattle.language.specs.Text.Fields.{behind}
 use Rattle.language.specs.Text.Letters.{delay, month}
 use Rattle.language.specs.Text.Number.{printNumber}
-use Rattle.writer.proofs.FieldTexts.{delay-small, month-small, number-small}
+use Rattle.writer.proofs.FieldTexts.{delay-most, month-most, number-most}
 use Rattle.writer.proofs.Letters.{others-bare, shapes}
 use Rattle.writer.proofs.RowTexts.{partsAt, row-at}
 use Rattle.writer.proofs.Texts.{behind-more, text-none, written-behind}
@@ -40,15 +40,6 @@ shaped b =
     record { shape = Bare; is = others-bare b (record { noN = n; noQ = q; noT = t; noL = l; noW = w; noO = o; noF = f; noH = h }) }))))))))
 
 -- ---- a row, and a text
-
-number-most : (z : ℤ) → length (printNumber z) ≤ 21
-number-most z = number-small z _ refl
-
-month-most : (a b : ℤ) → length (fieldText month a b) ≤ 800
-month-most a b = month-small a b _ refl
-
-delay-most : (z : ℤ) → length (fieldText delay z z) ≤ 21
-delay-most z = delay-small z _ refl
 
 module _ (nodes : List ℤ) (j : ℕ) where
   parts-most : (s : Shape) → length (partsAt s j nodes) ≤ 899

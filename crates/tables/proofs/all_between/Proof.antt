@@ -1,6 +1,5 @@
-use Prim.Native.Nat.{_*_, _+_, _-_, _/_, _≤_}
+use Prim.Native.Nat.{_*_, _-_, _/_, _≤_}
 use lib.ListN.{drop, length}
-use mathlib.Core.Bool.{_&&_}
 use mathlib.Core.Path.{_∙_, _≡_, ap, refl, sym}
 use native.Mathlib.Omega.{arith}
 use Rattle.language.specs.Rules.Table.{allOf}
@@ -8,10 +7,6 @@ use Rattle.language.specs.Text.Number.{between}
 use Rattle.tables.proofs.Lists.{four-failed, four-passed}
 use Rattle.tables.proofs.all_between.Statement.{statement}
 use Rattle.tables.proofs.all_between.Tie as tie
-use Rattle.tables.proofs.all_between.Reads as reads
-use Rattle.tables.proofs.all_between.Lts as lts
-use Rattle.tables.proofs.four_between.Reads as four-between-reads
-use Rattle.tables.proofs.rest_between.Reads as rest-between-reads
 
 abbrev Inv-loop : tie.InvT-loop
 Inv-loop xs range fours k₀ k = (k ≤ fours) × (allOf (between (range .low) (range .high)) xs ≡ allOf (between (range .low) (range .high)) (drop (4 * k) xs))

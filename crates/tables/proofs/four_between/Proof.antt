@@ -10,9 +10,6 @@ use Rattle.language.specs.Text.Number.{between}
 use Rattle.tables.proofs.Lists.{all-failed, second-failed, tested, third-failed, three-passed}
 use Rattle.tables.proofs.four_between.Statement.{statement}
 use Rattle.tables.proofs.four_between.Tie as tie
-use Rattle.tables.proofs.four_between.Reads as reads
-use Rattle.tables.proofs.four_between.Lts as lts
-use Rattle.tables.proofs.is_within.Reads as is-within-reads
 
 mul-is-within : tie.Need-mul-is-within
 mul-is-within c = search needs

@@ -4,10 +4,6 @@ use mir.Val.{Fits, SFits}
 use Rattle.tables.proofs.Words.{within}
 use Rattle.tables.proofs.is_within.Statement.{statement}
 use Rattle.tables.proofs.is_within.Tie as tie
-use Rattle.tables.proofs.is_within.Reads as reads
-use Rattle.tables.proofs.is_within.Lts as lts
-use Rattle.std.proofs.num.wrapping_sub_u64.Reads as wrapping-sub-u64-reads
-use Rattle.tables.proofs.word.Reads as word-reads
 
 word-requires : tie.Need-word-requires
 word-requires c κs = search needs

@@ -11,9 +11,6 @@ use Rattle.language.specs.Text.Number.{between}
 use Rattle.tables.proofs.Lists.{all-done, all-failed, all-passed, tested}
 use Rattle.tables.proofs.rest_between.Statement.{statement}
 use Rattle.tables.proofs.rest_between.Tie as tie
-use Rattle.tables.proofs.rest_between.Reads as reads
-use Rattle.tables.proofs.rest_between.Lts as lts
-use Rattle.tables.proofs.is_within.Reads as is-within-reads
 
 abbrev Inv-loop : tie.InvT-loop
 Inv-loop xs from range i₀ i = (i ≤ length xs) × (allOf (between (range .low) (range .high)) (drop from xs) ≡ allOf (between (range .low) (range .high)) (drop i xs))

@@ -15,9 +15,6 @@ use Rattle.tables.proofs.Fills.{all-at}
 use Rattle.tables.proofs.Lists.{bounded-done, bounded-failed, bounded-passed, label-room}
 use Rattle.tables.proofs.values_bounded.Statement.{statement}
 use Rattle.tables.proofs.values_bounded.Tie as tie
-use Rattle.tables.proofs.values_bounded.Reads as reads
-use Rattle.tables.proofs.values_bounded.Lts as lts
-use Rattle.tables.proofs.all_between.Reads as all-between-reads
 
 abbrev Inv-loop : tie.InvT-loop
 Inv-loop n bounds values k₀ at₀ k at = (k ≤ length bounds) × (at ≡ k * n) × (valuesBounded n bounds values ≡ valuesBounded n (drop k bounds) (drop at values))

@@ -1,10 +1,7 @@
-use borrow.Author.Needs.{needs}
 use Rattle.integers.proofs.Negation.{add-fits, distance-fits, not-below}
 use Rattle.tables.proofs.Words.{lifted-bits, lifted-fits, lifted-reads, word-above, word-fits, word-is}
 use Rattle.tables.proofs.word.Statement.{statement}
 use Rattle.tables.proofs.word.Tie as tie
-use Rattle.tables.proofs.word.Reads as reads
-use Rattle.tables.proofs.word.Lts as lts
 
 add-result : tie.Need-add-result
 add-result c = add-fits _ (c .before .fits .x) (c .if1 .taken)
