@@ -29,7 +29,7 @@ text-length-requires : tie.Need-text-length-requires
 text-length-requires c κs = search needs
 
 put-text-requires-2 : tie.Need-put-text-requires-2
-put-text-requires-2 c κs = search needs
+put-text-requires-2 c κs = (c .before .before .before .before .before .pre .0, omega (arith, c .before .before .text-length .ensures, c .before .if2 .left))
 
 returns-2 : tie.Need-returns-2
 unfolding writeCall
