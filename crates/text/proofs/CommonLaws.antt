@@ -3,14 +3,14 @@ use Prim.Native.Nat.{_%_, _+_, _/_, _<_, _≤_, ℕ}
 use lib.IntN.{pos, ℤ}
 use lib.ListN.{drop, getD, length}
 use mathlib.Core.List.{List, [], _∷_}
-use mathlib.Core.Path.{_∙_, _≡_, ap, refl, sym}
+use mathlib.Core.Path.{_∙_, _≡_, ap, refl, subst, sym}
 use native.Mathlib.Omega.{arith}
-use Rattle.language.specs.Text.Letters.{AmountLetter, Form, PlanLetter, amountRow, figure, letterAmong, month, ofAmount, ofRoot, payoffForm, payoffRow, planForm, planRow, rowOf, testRow}
+use Rattle.language.specs.Text.Letters.{AmountLetter, Class, Form, Kind, PlanLetter, amountRow, figure, letterAmong, month, ofAmount, ofRoot, payoffForm, payoffRow, planForm, planRow, rowOf, testRow}
 use Rattle.text.specs.Classes.{classOf}
-use Rattle.text.specs.Fields.{SlotsAre, classesOfThree, classesOfTwo}
-use Rattle.text.specs.Letters.{BareIs, ShapeIs, bareShape, formOf, kindAt, kinds}
+use Rattle.text.specs.Fields.{SlotsAre, SlotsTried, classesOfThree, classesOfTwo}
+use Rattle.text.specs.Letters.{BareIs, BranchIs, ShapeIs, bareShape, formOf, kindAt, kinds}
 use Rattle.text.specs.Positions.{upTo}
-use Rattle.text.specs.Trees.{CommonIs, Opens, commonOf}
+use Rattle.text.specs.Trees.{CommonIs, LeafIs, Opens, branchHead, commonOf}
 use Rattle.text.specs.declared.letters.Shape.{Shape}
 use Rattle.text.specs.declared.letters.TextForm.{TextForm}
 use Rattle.text.specs.declared.letters.TextForm.the-variants.{Payoff, Plan}
@@ -18,6 +18,7 @@ use Rattle.text.specs.declared.slots.Slots.{Slots}
 use Rattle.text.specs.declared.slots.Slots.the-variants.{Filled, Unfilled}
 use Rattle.text.specs.declared.trees.Common.the-variants as common
 use Rattle.text.specs.declared.trees.Common.the-variants.{Plain}
+use Rattle.text.specs.declared.trees.Head.{Head}
 use Rattle.text.proofs.FieldLaws.{four-none}
 use Rattle.text.proofs.LetterLaws.{known}
 use Rattle.text.proofs.OpenLaws.{open-done}
@@ -120,3 +121,29 @@ module _ (text : List ℕ) (at k : ℕ) (h : at + 2 ≤ length text) (comma : ge
     where
       some-bits : (p : ℕ) → p ≡ 0 → p % 4 ≡ k → 0 < k → ⊥
       some-bits p e q l = let z : 0 % 4 ≡ k = sym (ap (λ (n : ℕ). n % 4) e) ∙ q in omega (arith, z)
+
+  -- .. and with two children
+  pub branch-opens : (form : TextForm) (p : ℕ) → BranchIs (getD text at 0) p → 0 < k → p % 4 ≡ k → Opens (formOf form) (kindAt k) text at (branchHead (getD text at 0) at (p / 4))
+  branch-opens form p b l q =
+      let second : p / 16 % 4 ≡ p / 4 / 4 = omega (arith, b .two) in
+      let third : p / 64 ≡ 0 = omega (arith, b .two) in
+      subst (λ (n : ℕ). Opens (formOf form) (kindAt k) text at (kidsAre (p / 4 / 4) n)) third
+      (subst (λ (n : ℕ). Opens (formOf form) (kindAt k) text at (kidsAre n (p / 64))) second (bare-opens form p (b .bare) l q))
+    where
+      kidsAre : ℕ → ℕ → Head
+      kidsAre y z = record { letter = getD text at 0; a = pos 0; b = pos 0; c = pos 0; d = pos 0; next = at + 2; kid1 = p / 4 % 4; kid2 = y; kid3 = z }
+
+-- ---- nodes without children
+
+module _ {P : Type 0} (form : Form P) (kind : Kind) (text : List ℕ) (at letter : ℕ) where
+  pub leaf-common : (r : Slots) → CommonIs form kind text at (commonOf letter r 0) → LeafIs form kind text at (commonOf letter r 0)
+  unfolding commonOf
+  leaf-common (Filled a b c d next) o = (o, refl)
+  leaf-common Unfilled o = tt
+
+  -- fields of which only some are looked for
+  pub leaf-tried : (cs : List Class) (start : ℕ) → ((r : Slots) → SlotsAre cs text start r → CommonIs form kind text at (commonOf letter r 0))
+      → (r : Slots) → SlotsTried cs text start r → LeafIs form kind text at (commonOf letter r 0)
+  unfolding commonOf
+  leaf-tried cs start f (Filled a b c d next) s = leaf-common (Filled a b c d next) (f (Filled a b c d next) s)
+  leaf-tried cs start f Unfilled s = tt

@@ -13,14 +13,14 @@ use Rattle.language.specs.Text.Letters.{Class, month}
 use Rattle.language.specs.Text.Reader.{readFields}
 use Rattle.nodes.specs.Rows.{slotsOf}
 use Rattle.text.specs.Classes.{classOf, rangeOf}
-use Rattle.text.specs.Fields.{DigitIs, Four, Malformed, MonthIs, PairIs, ReadUpTo, Taken, TakenIs, Two, behind, classesOfThree, classesOfTwo, firstAs}
+use Rattle.text.specs.Fields.{DigitIs, Four, Malformed, MonthIs, PairIs, ReadUpTo, Taken, TakenIs, TriedIs, Two, behind, classesOfThree, classesOfTwo, firstAs}
 use Rattle.text.specs.Positions.{fieldsFrom, upTo}
 use Rattle.text.specs.declared.fields.Taking.{Taking}
 use Rattle.text.specs.declared.fields.Taking.the-variants.{Value, Wrong}
 use Rattle.text.specs.declared.slots.Taking2.{Taking2}
 use Rattle.text.specs.declared.slots.Taking2.the-variants.{Values, Wrongs}
 use Rattle.text.proofs.ClassLaws.{Held, number-digit, plain-fails, plain-reads}
-use Rattle.text.proofs.Positions.{first-field, from-behind, up-fits}
+use Rattle.text.proofs.Positions.{first-field, from-behind, up-comma, up-fits, up-more}
 
 -- ---- the field at a byte
 
@@ -50,6 +50,14 @@ digit-taken text at class b h l m e (Value z next) d =
 digit-taken text at class b h l m e Wrong d =
     failed-at (classOf class) text at (omega arith)
     (plain-fails _ class (λ q p. omega (arith, sym (ap (λ (f : List ℕ). getD f 0 0) e) ∙ p)) (rw (number-digit _ b e l m) d))
+
+-- .. in front of a comma, where any other is not told
+pub digit-tried : (text : List ℕ) (at class : ℕ) → at + 2 ≤ length text → 48 ≤ getD text at 0 → getD text at 0 ≤ 57 → getD text (at + 1) 0 ≡ 44
+    → (r : Taking) → DigitIs (rangeOf class) (getD text at 0 - 48) (at + 2) r → TriedIs (classOf class) text at r
+digit-tried text at class h l m comma (Value z next) d =
+    let one = up-more 44 text at (omega arith) (λ e. omega arith) (λ e. omega arith) ∙ ap (λ (l : List ℕ). getD text at 0 ∷ l) (up-comma 44 text (at + 1) (omega arith) comma) in
+    (digit-taken text at class (getD text at 0) (omega arith) l m one (Value z next) d, d .ends)
+digit-tried text at class h l m comma Wrong d = tt
 
 -- ---- several fields
 

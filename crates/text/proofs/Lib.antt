@@ -11,4 +11,5 @@ pub mod OpenLaws
 pub mod CommonLaws
 pub mod RowLaws
 pub mod GrowLaws
+pub mod PackedLaws
 pub mod TextLaws

@@ -44,6 +44,11 @@ abbrev pub TakenIs : Class → List ℕ → ℕ → Taking → Type 0
 TakenIs c text at (Value z next) = Taken c text at (z ∷ []) next
 TakenIs c text at Wrong = firstAs c (fieldsFrom text at) ≡ none
 
+-- where a field of one digit and a comma was looked for, and any other is not told
+abbrev pub TriedIs : Class → List ℕ → ℕ → Taking → Type 0
+TriedIs c text at (Value z next) = Taken c text at (z ∷ []) next × (next ≡ at + 2)
+TriedIs c text at Wrong = Unit {0}
+
 -- a digit as a number within a range, in front of byte next
 pub record Digit (range : Range) (d next : ℕ) (z : ℤ) (n : ℕ) : Type 0 where
   pub is : ranged (range .low) (range .high) (some (pos d)) ≡ some z
@@ -99,3 +104,8 @@ pub record Four (cs : List Class) (text : List ℕ) (at : ℕ) (a b c d : ℤ) (
 abbrev pub SlotsAre : List Class → List ℕ → ℕ → Slots → Type 0
 SlotsAre cs text at (Filled a b c d next) = Four cs text at a b c d next
 SlotsAre cs text at Unfilled = Malformed cs text at
+
+-- where not all fields of these classes were looked for
+abbrev pub SlotsTried : List Class → List ℕ → ℕ → Slots → Type 0
+SlotsTried cs text at (Filled a b c d next) = Four cs text at a b c d next
+SlotsTried cs text at Unfilled = Unit {0}

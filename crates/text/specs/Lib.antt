@@ -8,3 +8,4 @@ pub mod Settings
 pub mod Fields
 pub mod Letters
 pub mod Trees
+pub mod Packed

@@ -1,7 +1,7 @@
 -- What an answer of the code about nodes means: a definition's result, and the rows that stand in the table.
-use Prim.Native.Nat.{_*_, _+_, _-_, _<_, _≤_, ℕ}
+use Prim.Native.Nat.{_%_, _*_, _+_, _-_, _/_, _<_, _≤_, ℕ}
 use lib.IntN.{pos, ℤ}
-use lib.ListN.{length, take}
+use lib.ListN.{getD, length, take}
 use mathlib.Core.List.{List, [], _++_, _∷_}
 use mathlib.Core.Path.{_≡_}
 use Rattle.language.specs.Answer.{refused}
@@ -44,6 +44,10 @@ leafRow h = pos (h .letter) ∷ h .a ∷ h .b ∷ h .c ∷ h .d ∷ []
 abbrev pub overRow : Head → ℕ → ℕ → ℕ → List ℤ
 overRow h own second third = pos (h .letter) ∷ h .a ∷ h .b ∷ pos (second - own) ∷ pos (third - own) ∷ []
 
+-- a node without fields; kids has the kinds of its two children, the second four times
+abbrev pub branchHead : ℕ → ℕ → ℕ → Head
+branchHead letter at kids = record { letter = letter; a = pos 0; b = pos 0; c = pos 0; d = pos 0; next = at + 2; kid1 = kids % 4; kid2 = kids / 4; kid3 = 0 }
+
 module _ {P : Type 0} (form : Form P) (left : ℕ) where
   -- a node was opened: what reading it and others of the kinds ks then comes to, once its children are read
   pub record Begun (kind : Kind) (text : List ℕ) (at count : ℕ) (h : Head) : Type 0 where
@@ -85,6 +89,10 @@ module _ {P : Type 0} (form : Form P) (left : ℕ) where
   ReadIs kind text at old new count (Done next m) = Grown kind text at old new count next m
   ReadIs kind text at old new count (Stopped k) = Refuses kind text at count (numberOf k)
 
+  -- such a node was read, of whatever kind it was opened
+  pub record BranchRead (text : List ℕ) (at kids : ℕ) (old new : List ℤ) (count : ℕ) (r : trees.Read) : Type 0 where
+    pub is : (kind : Kind) → Begun kind text at count (branchHead (getD text at 0) at kids) → ReadIs kind text at old new count r
+
 module _ {P : Type 0} (form : Form P) where
   -- a node of the kind stands at byte `at`: it is opened wherever there is room for it
   pub record Opens (kind : Kind) (text : List ℕ) (at : ℕ) (h : Head) : Type 0 where
@@ -93,3 +101,8 @@ module _ {P : Type 0} (form : Form P) where
   abbrev pub CommonIs : Kind → List ℕ → ℕ → Common → Type 0
   CommonIs kind text at (Plain h) = Opens kind text at h
   CommonIs kind text at common.Other = Unit {0}
+
+  -- the same where the node has no children
+  abbrev pub LeafIs : Kind → List ℕ → ℕ → Common → Type 0
+  LeafIs kind text at (Plain h) = Opens kind text at h × (h .kid1 ≡ 0)
+  LeafIs kind text at common.Other = Unit {0}

@@ -6,7 +6,7 @@ ghost use Prim.Native.Nat.{_+_, _≤_, _<_};
 ghost use lib.ListN.{length, drop, getD};
 ghost use Rattle.text.specs.Positions.{upTo};
 ghost use Rattle.text.specs.Classes.{classOf, rangeOf, Limited, RangedIs};
-ghost use Rattle.text.specs.Fields.{DigitIs, TakenIs};
+ghost use Rattle.text.specs.Fields.{DigitIs, TakenIs, TriedIs};
 use crate::numbers::Number;
 use crate::numbers::read_number;
 use crate::settings::read_setting;
@@ -136,6 +136,23 @@ fn ends_behind(text: &[u8], at: usize) -> bool
         return true;
     }
     text[at + 1] == b','
+}
+
+// A field of one digit in front of a comma; any other is tried again.
+pub fn one_digit(text: &[u8], at: usize, class: u8) -> Taking
+    requires { ⌜ at + 2 ≤ length (now text) ⌝ }
+    ensures { λ r. ⌜ TriedIs (classOf class) (now (text .entry)) at r ⌝ }
+{
+    let c = text[at];
+    match c {
+        b'0'..=b'9' => {
+            if text[at + 1] == b',' {
+                return digit_in(range_of(class), c - 48, at + 2);
+            }
+        }
+        _ => {}
+    }
+    Taking::Wrong
 }
 
 // Any field but a month. Most have one digit, so that is tried first.

@@ -18,7 +18,8 @@ use letters::ROOT;
 use letters::TextForm;
 use trees::MAX_DEPTH;
 use trees::Read;
-use trees::read_node;
+use trees::read_general;
+use trees::read_of;
 
 pub enum Refusal {
     TooLong,
@@ -82,7 +83,7 @@ fn read_text(form: TextForm, text: &[u8], nodes: &mut [i64]) -> Reading
     if longest(form) < text.len() {
         return Reading::Refused(Refusal::TooLong);
     }
-    match read_node(form, text, 0, ROOT, nodes, 0, MAX_DEPTH) {
+    match read_of(read_general(form, text, 0, ROOT, nodes, 0, MAX_DEPTH)) {
         Read::Done { next, count } => {
             if next <= text.len() {
                 Reading::Refused(Refusal::NotOfForm)

@@ -4,12 +4,13 @@ ghost use Prim.Native.Nat.{_+_, _≤_};
 ghost use lib.ListN.{length};
 ghost use Rattle.language.specs.Text.Letters.{figure, month};
 ghost use Rattle.text.specs.Classes.{classOf};
-ghost use Rattle.text.specs.Fields.{MonthIs, PairIs, SlotsAre, classesOfTwo, classesOfThree};
+ghost use Rattle.text.specs.Fields.{MonthIs, PairIs, SlotsAre, SlotsTried, classesOfTwo, classesOfThree};
 use crate::fields::LABEL;
 use crate::fields::MONTH;
 use crate::fields::NONE;
 use crate::fields::Range;
 use crate::fields::Taking;
+use crate::fields::one_digit;
 use crate::fields::read_field;
 use crate::fields::read_ranged;
 use crate::numbers::Number;
@@ -182,6 +183,26 @@ pub fn read_two(text: &[u8], at: usize, first: u8, second: u8) -> Slots
 {
     match read_field(text, at, first) {
         Taking::Value { value: a, next } => match read_field(text, next, second) {
+            Taking::Value { value: b, next: n } => Slots::Filled {
+                a,
+                b,
+                c: 0,
+                d: 0,
+                next: n,
+            },
+            Taking::Wrong => Slots::Unfilled,
+        },
+        Taking::Wrong => Slots::Unfilled,
+    }
+}
+
+// Two fields of one digit each, in front of commas; any others are tried again.
+pub fn two_digits(text: &[u8], at: usize, first: u8, second: u8) -> Slots
+    requires { ⌜ at + 4 ≤ length (now text) ⌝ }
+    ensures { λ r. ⌜ SlotsTried (classOf first ∷ classOf second ∷ []) (now (text .entry)) at r ⌝ }
+{
+    match one_digit(text, at, first) {
+        Taking::Value { value: a, next } => match one_digit(text, at + 2, second) {
             Taking::Value { value: b, next: n } => Slots::Filled {
                 a,
                 b,
