@@ -5,7 +5,7 @@ use lib.ListN.{drop, getD, length}
 use mathlib.Core.List.{List, [], _∷_}
 use mathlib.Core.Path.{_∙_, _≡_, ap, refl, subst, sym}
 use native.Mathlib.Omega.{arith}
-use Rattle.language.specs.Text.Letters.{AmountLetter, Class, Form, Kind, PlanLetter, amountRow, figure, letterAmong, month, ofAmount, ofRoot, payoffForm, payoffRow, planForm, planRow, rowOf, testRow}
+use Rattle.language.specs.Text.Letters.{AmountLetter, Class, Form, Kind, PayoffLetter, PlanLetter, amountRow, figure, letterAmong, month, ofAmount, ofRoot, payoffForm, payoffRow, planForm, planRow, rowOf, testRow}
 use Rattle.text.specs.Classes.{classOf}
 use Rattle.text.specs.Fields.{SlotsAre, SlotsTried, classesOfThree, classesOfTwo}
 use Rattle.text.specs.Letters.{BareIs, BranchIs, ShapeIs, bareShape, formOf, kindAt, kinds}
@@ -37,28 +37,36 @@ common-unfilled letter kid = refl
 
 -- ---- where it stands
 
--- the row of a letter with up to two fields and at most one child
-abbrev commonShape : ℕ → ℕ → ℕ → ℕ → Shape
-commonShape kind first second kid = record { kind = kind; first = first; second = second; third = 0; kid1 = kid; kid2 = 0; kid3 = 0 }
+-- the row of a letter with fields and at most one child
+abbrev commonShape : ℕ → ℕ → ℕ → ℕ → ℕ → Shape
+commonShape kind first second third kid = record { kind = kind; first = first; second = second; third = third; kid1 = kid; kid2 = 0; kid3 = 0 }
 
-number-shape : (form : TextForm) → ShapeIs (formOf form) 78 (commonShape 2 1 0 0)
+number-shape : (form : TextForm) → ShapeIs (formOf form) 78 (commonShape 2 1 0 0 0)
 unfolding letterAmong rowOf planRow payoffRow amountRow testRow classesOfThree classesOfTwo classOf kinds kindAt
 number-shape Plan = known planForm _ _ _ 78 (ofAmount AmountLetter.N) refl refl refl (record { is = refl; sort = refl; classes = refl; below = refl; small = (omega arith, omega arith, omega arith) })
 number-shape Payoff = known payoffForm _ _ _ 78 (ofAmount AmountLetter.N) refl refl refl (record { is = refl; sort = refl; classes = refl; below = refl; small = (omega arith, omega arith, omega arith) })
 
-index-shape : ShapeIs planForm 79 (commonShape 2 4 5 0)
+index-shape : ShapeIs planForm 79 (commonShape 2 4 5 0 0)
 unfolding letterAmong rowOf planRow amountRow testRow classesOfThree classesOfTwo classOf kinds kindAt
 index-shape = known planForm _ _ _ 79 (ofAmount AmountLetter.O) refl refl refl (record { is = refl; sort = refl; classes = refl; below = refl; small = (omega arith, omega arith, omega arith) })
 
-reading-shape : ShapeIs payoffForm 79 (commonShape 2 4 7 0)
+reading-shape : ShapeIs payoffForm 79 (commonShape 2 4 7 0 0)
 unfolding letterAmong rowOf payoffRow amountRow testRow classesOfThree classesOfTwo classOf kinds kindAt
 reading-shape = known payoffForm _ _ _ 79 (ofAmount AmountLetter.O) refl refl refl (record { is = refl; sort = refl; classes = refl; below = refl; small = (omega arith, omega arith, omega arith) })
 
-transfer-shape : ShapeIs planForm 84 (commonShape 1 3 3 0)
+transfer-shape : ShapeIs planForm 84 (commonShape 1 3 3 0 0)
 unfolding letterAmong rowOf planRow amountRow testRow classesOfThree classesOfTwo classOf kinds kindAt
 transfer-shape = known planForm _ _ _ 84 (ofRoot PlanLetter.T) refl refl refl (record { is = refl; sort = refl; classes = refl; below = refl; small = (omega arith, omega arith, omega arith) })
 
-delay-shape : ShapeIs planForm 76 (commonShape 1 2 0 1)
+future-shape : ShapeIs payoffForm 70 (commonShape 1 7 3 3 0)
+unfolding letterAmong rowOf payoffRow amountRow testRow classesOfThree classesOfTwo classOf kinds kindAt
+future-shape = known payoffForm _ _ _ 70 (ofRoot PayoffLetter.F) refl refl refl (record { is = refl; sort = refl; classes = refl; below = refl; small = (omega arith, omega arith, omega arith) })
+
+cut-shape : ShapeIs payoffForm 72 (commonShape 1 7 3 3 0)
+unfolding letterAmong rowOf payoffRow amountRow testRow classesOfThree classesOfTwo classOf kinds kindAt
+cut-shape = known payoffForm _ _ _ 72 (ofRoot PayoffLetter.H) refl refl refl (record { is = refl; sort = refl; classes = refl; below = refl; small = (omega arith, omega arith, omega arith) })
+
+delay-shape : ShapeIs planForm 76 (commonShape 1 2 0 0 1)
 unfolding letterAmong rowOf planRow amountRow testRow classesOfThree classesOfTwo classOf kinds kindAt
 delay-shape = known planForm _ _ _ 76 (ofRoot PlanLetter.L) refl refl refl (record { is = refl; sort = refl; classes = refl; below = refl; small = (omega arith, omega arith, omega arith) })
 
@@ -70,34 +78,43 @@ module _ (text : List ℕ) (at k : ℕ) (h : at + 2 ≤ length text) (comma : ge
         up-more 44 text at (omega arith) n n ∙ ap (λ (l : List ℕ). getD text at 0 ∷ l) (up-comma 44 text (at + 1) (omega arith) comma)
         ∙ ap (λ (c : ℕ). c ∷ []) letter
 
-    opens : (kind first second kid : ℕ) → ShapeIs form b (commonShape kind first second kid) → (kind ≡ 0 → ⊥) → kind ≡ k
-        → (r : Slots) → SlotsAre (classesOfThree first second 0) text (at + 2) r → CommonIs form (kindAt k) text at (commonOf b r kid)
+    opens : (kind first second third kid : ℕ) → ShapeIs form b (commonShape kind first second third kid) → (kind ≡ 0 → ⊥) → kind ≡ k
+        → (r : Slots) → SlotsAre (classesOfThree first second third) text (at + 2) r → CommonIs form (kindAt k) text at (commonOf b r kid)
     unfolding commonOf
-    opens kind first second kid sh some-kind same (Filled w x y z next) f = record {
-      is = λ left count room level. open-done form left k text at count (omega arith) b (commonShape kind first second kid) sole sh some-kind same room level
+    opens kind first second third kid sh some-kind same (Filled w x y z next) f = record {
+      is = λ left count room level. open-done form left k text at count (omega arith) b (commonShape kind first second third kid) sole sh some-kind same room level
           w x y z w x y z next f refl refl refl refl;
     }
-    opens kind first second kid sh some-kind same Unfilled f = tt
+    opens kind first second third kid sh some-kind same Unfilled f = tt
 
   pub number-opens : (form : TextForm) → getD text at 0 ≡ 78 → k ≡ 2 → (r : Slots) → SlotsAre (figure ∷ []) text (at + 2) r → CommonIs (formOf form) (kindAt k) text at (commonOf 78 r 0)
   unfolding classesOfThree classesOfTwo classOf
-  number-opens form e q r s = opens (formOf form) 78 e (λ z. omega arith) 2 1 0 0 (number-shape form) (λ z. omega arith) (sym q) r s
+  number-opens form e q r s = opens (formOf form) 78 e (λ z. omega arith) 2 1 0 0 0 (number-shape form) (λ z. omega arith) (sym q) r s
 
   pub index-opens : getD text at 0 ≡ 79 → k ≡ 2 → (r : Slots) → SlotsAre (classOf 4 ∷ classOf 5 ∷ []) text (at + 2) r → CommonIs planForm (kindAt k) text at (commonOf 79 r 0)
   unfolding classesOfThree classesOfTwo
-  index-opens e q r s = opens planForm 79 e (λ z. omega arith) 2 4 5 0 index-shape (λ z. omega arith) (sym q) r s
+  index-opens e q r s = opens planForm 79 e (λ z. omega arith) 2 4 5 0 0 index-shape (λ z. omega arith) (sym q) r s
 
   pub reading-opens : getD text at 0 ≡ 79 → k ≡ 2 → (r : Slots) → SlotsAre (classOf 4 ∷ month ∷ []) text (at + 2) r → CommonIs payoffForm (kindAt k) text at (commonOf 79 r 0)
   unfolding classesOfThree classesOfTwo
-  reading-opens e q r s = opens payoffForm 79 e (λ z. omega arith) 2 4 7 0 reading-shape (λ z. omega arith) (sym q) r s
+  reading-opens e q r s = opens payoffForm 79 e (λ z. omega arith) 2 4 7 0 0 reading-shape (λ z. omega arith) (sym q) r s
 
   pub delay-opens : getD text at 0 ≡ 76 → k ≡ 1 → (r : Slots) → SlotsAre (classOf 2 ∷ []) text (at + 2) r → CommonIs planForm (kindAt k) text at (commonOf 76 r 1)
   unfolding classesOfThree classesOfTwo
-  delay-opens e q r s = opens planForm 76 e (λ z. omega arith) 1 2 0 1 delay-shape (λ z. omega arith) (sym q) r s
+  delay-opens e q r s = opens planForm 76 e (λ z. omega arith) 1 2 0 0 1 delay-shape (λ z. omega arith) (sym q) r s
 
   pub transfer-opens : getD text at 0 ≡ 84 → k ≡ 1 → (r : Slots) → SlotsAre (classOf 3 ∷ classOf 3 ∷ []) text (at + 2) r → CommonIs planForm (kindAt k) text at (commonOf 84 r 0)
   unfolding classesOfThree classesOfTwo
-  transfer-opens e q r s = opens planForm 84 e (λ z. omega arith) 1 3 3 0 transfer-shape (λ z. omega arith) (sym q) r s
+  transfer-opens e q r s = opens planForm 84 e (λ z. omega arith) 1 3 3 0 0 transfer-shape (λ z. omega arith) (sym q) r s
+
+  -- an `F`, and an `H`, which it is once it was cut
+  pub future-opens : getD text at 0 ≡ 70 → k ≡ 1 → (r : Slots) → SlotsAre (month ∷ classesOfTwo 3 3) text (at + 2) r → CommonIs payoffForm (kindAt k) text at (commonOf 70 r 0)
+  unfolding classesOfThree
+  future-opens e q r s = opens payoffForm 70 e (λ z. omega arith) 1 7 3 3 0 future-shape (λ z. omega arith) (sym q) r s
+
+  pub cut-opens : getD text at 0 ≡ 72 → k ≡ 1 → (r : Slots) → SlotsAre (month ∷ classesOfTwo 3 3) text (at + 2) r → CommonIs payoffForm (kindAt k) text at (commonOf 72 r 0)
+  unfolding classesOfThree
+  cut-opens e q r s = opens payoffForm 72 e (λ z. omega arith) 1 7 3 3 0 cut-shape (λ z. omega arith) (sym q) r s
 
   -- a letter without fields
   pub bare-opens : (form : TextForm) (p : ℕ) → BareIs (getD text at 0) p → 0 < k → p % 4 ≡ k

@@ -52,11 +52,14 @@ digit-taken text at class b h l m e Wrong d =
     (plain-fails _ class (λ q p. omega (arith, sym (ap (λ (f : List ℕ). getD f 0 0) e) ∙ p)) (rw (number-digit _ b e l m) d))
 
 -- .. in front of a comma, where any other is not told
+pub digit-alone : (text : List ℕ) (at : ℕ) → at + 2 ≤ length text → 48 ≤ getD text at 0 → getD text (at + 1) 0 ≡ 44 → upTo 44 (drop at text) ≡ getD text at 0 ∷ []
+digit-alone text at h l comma =
+    up-more 44 text at (omega arith) (λ e. omega arith) (λ e. omega arith) ∙ ap (λ (l : List ℕ). getD text at 0 ∷ l) (up-comma 44 text (at + 1) (omega arith) comma)
+
 pub digit-tried : (text : List ℕ) (at class : ℕ) → at + 2 ≤ length text → 48 ≤ getD text at 0 → getD text at 0 ≤ 57 → getD text (at + 1) 0 ≡ 44
     → (r : Taking) → DigitIs (rangeOf class) (getD text at 0 - 48) (at + 2) r → TriedIs (classOf class) text at r
 digit-tried text at class h l m comma (Value z next) d =
-    let one = up-more 44 text at (omega arith) (λ e. omega arith) (λ e. omega arith) ∙ ap (λ (l : List ℕ). getD text at 0 ∷ l) (up-comma 44 text (at + 1) (omega arith) comma) in
-    (digit-taken text at class (getD text at 0) (omega arith) l m one (Value z next) d, d .ends)
+    (digit-taken text at class (getD text at 0) (omega arith) l m (digit-alone text at h l comma) (Value z next) d, d .ends)
 digit-tried text at class h l m comma Wrong d = tt
 
 -- ---- several fields

@@ -1,9 +1,9 @@
 -- Laws of a payoff's month: the row of settings as the code reads it is the definition's.
 use Prim.Native.Nat.{_+_, _-_, _<_, _^_, _≤_, suc, ℕ}
-use borrow.Author.Tests.{eq-eqb, eqb-false, eqb-true, le-leb, lt-leb, ltb-false, ltb-true, ne-eqb}
+use borrow.Author.Tests.{eq-eqb, eqb-false, eqb-true, le-leb, le-ltb, lt-leb, ltb-false, ltb-true, ne-eqb}
 use lib.Dec.{eqb, leb, ltb}
 use lib.IntN.{negℤ, pos, ℤ}
-use lib.ListN.{drop, length}
+use lib.ListN.{drop, getD, length}
 use lib.Seq.{drop-drop}
 use mathlib.Core.Bool.{Bool, _&&_, cond, false, true}
 use mathlib.Core.List.{List, [], _∷_}
@@ -16,10 +16,11 @@ use Rattle.language.specs.Text.Fields.{inFront, splitAt}
 use Rattle.language.specs.Text.Letters.{month}
 use Rattle.language.specs.Text.Number.{keep, readNumber}
 use Rattle.nodes.specs.Rows.{fieldSlots, settingsSlot}
-use Rattle.text.specs.Fields.{behind}
+use Rattle.text.specs.Fields.{Taken, behind}
 use Rattle.text.specs.Positions.{upTo}
 use Rattle.text.specs.Settings.{oneMore, settingsFrom}
-use Rattle.text.proofs.ClassLaws.{Held}
+use Rattle.text.proofs.ClassLaws.{Held, number-digit, ranged-in}
+use Rattle.text.proofs.FieldLaws.{digit-alone, taken-at}
 use Rattle.text.proofs.MonthParts.{Starts, later, parted}
 use Rattle.text.proofs.SettingLaws.{row-plus}
 
@@ -210,6 +211,26 @@ module _ (l : List ℕ) where
         is = month-is ∙ made number rest z (r .0) e (r .1) (r .2);
         slot = ap (λ (n : ℕ). z ∷ pos n ∷ []) (r .3);
       }
+
+-- ---- a month of one digit and no settings
+
+digit-held : (f : List ℕ) (b : ℕ) → f ≡ b ∷ [] → 48 ≤ b → b ≤ 57 → Held month f (pos (b - 48) ∷ pos 0 ∷ [])
+unfolding fieldOf fieldSlots splitAt readSettings rising settingsSlot
+digit-held f b e l m =
+    let q : ranged (negℤ (pos 60)) (pos 19200) (readNumber (b ∷ [])) ≡ some (pos (b - 48)) =
+    ranged-in (negℤ (pos 60)) (pos 19200) (pos (b - 48)) (readNumber (b ∷ [])) (number-digit (b ∷ []) b refl l m) (pos (b - 48)) refl refl (le-ltb 19200 (b - 48) (omega arith)) in
+    record {
+      field = aMonth (record { plain = pos (b - 48); settings = [] });
+      is = ap (fieldOf month) e ∙ rw (ne-eqb b 43 (λ r. omega arith), q) refl;
+      slot = refl;
+    }
+
+pub digit-month : (text : List ℕ) (at : ℕ) → at + 2 ≤ length text → 48 ≤ getD text at 0 → getD text at 0 ≤ 57 → getD text (at + 1) 0 ≡ 44
+    → (z : ℤ) → z ≡ pos (getD text at 0 - 48) → Taken month text at (z ∷ pos 0 ∷ []) (at + 2)
+digit-month text at h l m comma z e =
+    let one = digit-alone text at h l comma in
+    let k : length (upTo 44 (drop at text)) ≡ 1 = ap length one in
+    rw e (taken-at month text at (pos (getD text at 0 - 48) ∷ pos 0 ∷ []) (at + 2) (omega arith) (omega arith) (digit-held (upTo 44 (drop at text)) (getD text at 0) one l m))
 
 -- ---- in a text: the number ends at byte `end`, and the settings stand from there on
 

@@ -62,6 +62,11 @@ abbrev pub MonthIs : List ℕ → ℕ → Taking2 → Type 0
 MonthIs text at (Values a b next) = Taken month text at (a ∷ b ∷ []) next
 MonthIs text at Wrongs = firstAs month (fieldsFrom text at) ≡ none
 
+-- the same for a month of one digit, which has no settings
+abbrev pub MonthTried : List ℕ → ℕ → Taking → Type 0
+MonthTried text at (Value z next) = Taken month text at (z ∷ pos 0 ∷ []) next × (next ≡ at + 2)
+MonthTried text at Wrong = Unit {0}
+
 -- ---- several: the classes up to the first that is none
 
 unfoldable pub classesOfTwo : ℕ → ℕ → List Class

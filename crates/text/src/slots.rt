@@ -4,10 +4,11 @@ ghost use Prim.Native.Nat.{_+_, _≤_};
 ghost use lib.ListN.{length};
 ghost use Rattle.language.specs.Text.Letters.{figure, month};
 ghost use Rattle.text.specs.Classes.{classOf};
-ghost use Rattle.text.specs.Fields.{MonthIs, PairIs, SlotsAre, SlotsTried, classesOfTwo, classesOfThree};
+ghost use Rattle.text.specs.Fields.{MonthIs, MonthTried, PairIs, SlotsAre, SlotsTried, classesOfTwo, classesOfThree};
 use crate::fields::LABEL;
 use crate::fields::MONTH;
 use crate::fields::NONE;
+use crate::fields::PARTY;
 use crate::fields::Range;
 use crate::fields::Taking;
 use crate::fields::one_digit;
@@ -209,6 +210,74 @@ pub fn two_digits(text: &[u8], at: usize, first: u8, second: u8) -> Slots
                 c: 0,
                 d: 0,
                 next: n,
+            },
+            Taking::Wrong => Slots::Unfilled,
+        },
+        Taking::Wrong => Slots::Unfilled,
+    }
+}
+
+// A month of one digit in front of a comma; any other is tried again.
+fn month_digit(text: &[u8], at: usize) -> Taking
+    requires { ⌜ at + 2 ≤ length (now text) ⌝ }
+    ensures { λ r. ⌜ MonthTried (now (text .entry)) at r ⌝ }
+{
+    let c = text[at];
+    match c {
+        b'0'..=b'9' => {
+            if text[at + 1] == b',' {
+                return Taking::Value {
+                    value: (c - 48) as i64,
+                    next: at + 2,
+                };
+            }
+        }
+        _ => {}
+    }
+    Taking::Wrong
+}
+
+// A label and a month of one digit each.
+pub fn reading_digits(text: &[u8], at: usize) -> Slots
+    requires { ⌜ at + 4 ≤ length (now text) ⌝ }
+    ensures { λ r. ⌜ SlotsTried (classOf 4 ∷ month ∷ []) (now (text .entry)) at r ⌝ }
+{
+    match one_digit(text, at, LABEL) {
+        Taking::Value { value: a, next } => match month_digit(text, at + 2) {
+            Taking::Value { value: b, next: n } => Slots::Filled {
+                a,
+                b,
+                c: 0,
+                d: 0,
+                next: n,
+            },
+            Taking::Wrong => Slots::Unfilled,
+        },
+        Taking::Wrong => Slots::Unfilled,
+    }
+}
+
+// A month and two parties of one digit each.
+pub fn transfer_digits(text: &[u8], at: usize) -> Slots
+    ensures { λ r. ⌜ SlotsTried (month ∷ classesOfTwo 3 3) (now (text .entry)) at r ⌝ }
+{
+    if text.len() <= at {
+        return Slots::Unfilled;
+    }
+    if text.len() - at < 6 {
+        return Slots::Unfilled;
+    }
+    match month_digit(text, at) {
+        Taking::Value { value: a, next } => match one_digit(text, at + 2, PARTY) {
+            Taking::Value { value: c, next: n } => match one_digit(text, at + 4, PARTY) {
+                Taking::Value { value: d, next: m } => Slots::Filled {
+                    a,
+                    b: 0,
+                    c,
+                    d,
+                    next: m,
+                },
+                Taking::Wrong => Slots::Unfilled,
             },
             Taking::Wrong => Slots::Unfilled,
         },

@@ -31,6 +31,8 @@ use crate::slots::read_figure;
 use crate::slots::read_one;
 use crate::slots::read_reading;
 use crate::slots::read_two;
+use crate::slots::reading_digits;
+use crate::slots::transfer_digits;
 use crate::slots::two_digits;
 
 pub const MAX_DEPTH: usize = 32;
@@ -136,20 +138,36 @@ fn plan_leaf(text: &[u8], at: usize, kind: u8) -> Common
     }
 }
 
-// An index of a payoff.
+// An index or a transfer of a payoff, with fields of one digit.
 fn payoff_leaf(text: &[u8], at: usize, kind: u8) -> Common
     requires { ⌜ (at + 6 ≤ length (now text)) × (getD (now text) (at + 1) 0 ≡ 44) ⌝ }
     ensures { λ r. ⌜ LeafIs payoffForm (kindAt kind) (now (text .entry)) at r ⌝ }
 {
-    if text[at] == b'O' {
-        if kind == AMOUNT {
-            return common_of(b'O', read_reading(text, at + 2), NONE);
+    let letter = text[at];
+    match letter {
+        b'O' => {
+            if kind == AMOUNT {
+                return common_of(b'O', reading_digits(text, at + 2), NONE);
+            }
+            Common::Other
         }
+        b'F' => {
+            if kind == ROOT {
+                return common_of(b'F', transfer_digits(text, at + 2), NONE);
+            }
+            Common::Other
+        }
+        b'H' => {
+            if kind == ROOT {
+                return common_of(b'H', transfer_digits(text, at + 2), NONE);
+            }
+            Common::Other
+        }
+        _ => Common::Other,
     }
-    Common::Other
 }
 
-// The commonest nodes without children: numbers and indexes, and transfers of plans.
+// The commonest nodes without children: numbers, indexes and transfers.
 fn leaf_at(form: TextForm, text: &[u8], at: usize, kind: u8) -> Common
     requires { ⌜ (at + 6 ≤ length (now text)) × (getD (now text) (at + 1) 0 ≡ 44) ⌝ }
     ensures { λ r. ⌜ LeafIs (formOf form) (kindAt kind) (now (text .entry)) at r ⌝ }
@@ -194,7 +212,20 @@ fn plan_common(text: &[u8], at: usize, kind: u8) -> Common
     }
 }
 
-// Other common nodes: letters without fields and without two children, and indexes, transfers and delays of plans.
+// An index of a payoff.
+fn payoff_common(text: &[u8], at: usize, kind: u8) -> Common
+    requires { ⌜ (at + 2 ≤ length (now text)) × (getD (now text) (at + 1) 0 ≡ 44) ⌝ }
+    ensures { λ r. ⌜ CommonIs payoffForm (kindAt kind) (now (text .entry)) at r ⌝ }
+{
+    if text[at] == b'O' {
+        if kind == AMOUNT {
+            return common_of(b'O', read_reading(text, at + 2), NONE);
+        }
+    }
+    Common::Other
+}
+
+// Other common nodes: letters without fields and without two children, indexes, and transfers and delays of plans.
 fn common_at(form: TextForm, text: &[u8], at: usize, kind: u8) -> Common
     requires { ⌜ 0 < kind ⌝ }
     ensures { λ r. ⌜ CommonIs (formOf form) (kindAt kind) (now (text .entry)) at r ⌝ }
@@ -225,7 +256,7 @@ fn common_at(form: TextForm, text: &[u8], at: usize, kind: u8) -> Common
     }
     match form {
         TextForm::Plan => plan_common(text, at, kind),
-        TextForm::Payoff => Common::Other,
+        TextForm::Payoff => payoff_common(text, at, kind),
     }
 }
 

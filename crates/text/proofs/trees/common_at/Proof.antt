@@ -50,6 +50,9 @@ plan-common-requires c κs = search needs
 enum-told-2 : tie.Need-enum-told-2
 enum-told-2 c = search needs
 
+payoff-common-requires : tie.Need-payoff-common-requires
+payoff-common-requires c κs = search needs
+
 returns-5 : tie.Need-returns-5
 returns-5 c =
     let a = c .before .before .before .before .before .before .before .before .before .before .before .args in
@@ -57,7 +60,10 @@ returns-5 c =
     subst (λ (f : TextForm). CommonIs (formOf f) (kindAt (a .kind)) t (a .at) (c .plan-common .result)) (sym (c .before .enum-told .given .1)) (c .plan-common .ensures)
 
 returns-6 : tie.Need-returns-6
-returns-6 c = search needs
+returns-6 c =
+    let a = c .before .before .before .before .before .before .before .before .before .before .before .args in
+    let t = a .text .now in
+    subst (λ (f : TextForm). CommonIs (formOf f) (kindAt (a .kind)) t (a .at) (c .payoff-common .result)) (sym (c .before .enum-told2 .given .1)) (c .payoff-common .ensures)
 
 pub common-at-spec : {M : Type 1} → statement M
-common-at-spec = tie.close (tie.spec returns sub-if2 returns-2 add-if3 shared-slice-read-if3 returns-3 shared-slice-read-letter bare-letter-requires add-t13 returns-4 enum-told plan-common-requires enum-told-2 returns-5 returns-6)
+common-at-spec = tie.close (tie.spec returns sub-if2 returns-2 add-if3 shared-slice-read-if3 returns-3 shared-slice-read-letter bare-letter-requires add-t13 returns-4 enum-told plan-common-requires enum-told-2 payoff-common-requires returns-5 returns-6)
