@@ -439,12 +439,10 @@ pub fn read_of(r: usize) -> Read
 
 // Whether a letter, a comma and four bytes more stand here.
 fn stands_at(text: &[u8], at: usize) -> bool
+    requires { ⌜ (at ≤ length (now text) + 1) × (length (now text) ≤ 53760) ⌝ }
     ensures { λ r. ⌜ (r ≡ true → (at + 6 ≤ length (now (text .entry))) × (getD (now (text .entry)) (at + 1) 0 ≡ 44)) ⌝ }
 {
-    if text.len() <= at {
-        return false;
-    }
-    if text.len() - at < 6 {
+    if text.len() < at + 6 {
         return false;
     }
     text[at + 1] == b','

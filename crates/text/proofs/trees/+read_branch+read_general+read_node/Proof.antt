@@ -413,6 +413,9 @@ read-general-part t =
 abbrev read-node-calls : ℕ → read-node-lts.Claims
 read-node-calls t = (stands-at-reads.Asked, stands-at-reads.Learnt, branch-letter-reads.Asked, branch-letter-reads.Learnt, read-branch-below t, read-branch.Post, leaf-at-reads.Asked, leaf-at-reads.Learnt, put-leaf-reads.Asked, put-leaf-reads.Learnt, done-reads.Asked, done-reads.Learnt, read-general-below t, read-general.Post)
 
+read-node-stands-at-requires : (t : ℕ) → read-node-lts.Need-stands-at-requires (read-node-calls t) (read-node-at t) read-node.Post
+read-node-stands-at-requires t c κs = let p = c .before .before .before .pre .1 in (p .0, p .1)
+
 read-node-shared-slice-read-branch-letter : (t : ℕ) → read-node-lts.Need-shared-slice-read-branch-letter (read-node-calls t) (read-node-at t) read-node.Post
 read-node-shared-slice-read-branch-letter t c =
     let a = c .before .before .before .before .before .before .args in
@@ -485,7 +488,7 @@ read-node-returns-3 t c = c .before .read-general .ensures
 read-node-part : {M : Type 1} (t : ℕ) → read-node-lts.Closed (read-node-calls t) (read-node-at t) read-node.Post M
 read-node-part t =
     read-node-lts.spec (read-node-calls t) (read-node-at t) read-node.Post
-    (λ c κs. search needs)
+    (read-node-stands-at-requires t)
     (read-node-shared-slice-read-branch-letter t)
     (λ c κs. search needs)
     (read-node-read-branch-requires t)

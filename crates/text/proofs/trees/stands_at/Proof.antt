@@ -6,14 +6,11 @@ use borrow.Author.Needs.{needs}
 use Rattle.text.proofs.trees.stands_at.Statement.{statement}
 use Rattle.text.proofs.trees.stands_at.Tie as tie
 
+add-if1 : tie.Need-add-if1
+add-if1 c = search needs
+
 returns : tie.Need-returns
 returns c = λ e. let z : _≡_ {A = ℕ} 0 1 = cc in absurd (omega arith)
-
-sub-if2 : tie.Need-sub-if2
-sub-if2 c = search needs
-
-returns-2 : tie.Need-returns-2
-returns-2 c = λ e. let z : _≡_ {A = ℕ} 0 1 = cc in absurd (omega arith)
 
 add-result : tie.Need-add-result
 add-result c = search needs
@@ -21,8 +18,8 @@ add-result c = search needs
 shared-slice-read-result : tie.Need-shared-slice-read-result
 shared-slice-read-result c = search needs
 
-returns-3 : tie.Need-returns-3
-returns-3 c = λ e. (omega arith, eqb-true _ _ e)
+returns-2 : tie.Need-returns-2
+returns-2 c = λ e. (omega arith, eqb-true _ _ e)
 
 pub stands-at-spec : {M : Type 1} → statement M
-stands-at-spec = tie.close (tie.spec returns sub-if2 returns-2 add-result shared-slice-read-result returns-3)
+stands-at-spec = tie.close (tie.spec add-if1 returns add-result shared-slice-read-result returns-2)
