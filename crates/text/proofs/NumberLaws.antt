@@ -1,9 +1,9 @@
 -- Laws of whole numbers, as the code reads them digit by digit.
 use Prim.Native.Nat.{_*_, _+_, _-_, _<_, _≤_, suc, zero, ℕ}
-use borrow.Author.Tests.{eq-eqb, le-leb, lt-leb, ne-eqb}
+use borrow.Author.Tests.{eq-eqb, eqb-false, eqb-true, le-leb, lt-leb, ne-eqb}
 use lib.Dec.{eqb}
 use lib.IntN.{_-ℤ_, +ℤ-idl, negℤ, pos, ℤ}
-use lib.ListN.{getD, length}
+use lib.ListN.{drop, getD, length}
 use lib.Signed.{mag}
 use mathlib.Core.Bool.{Bool, _&&_, _||_, false, not, true}
 use mathlib.Core.List.{List, [], _∷_, foldl}
@@ -15,10 +15,12 @@ use mir.Syntax.{w64}
 use mir.Val.{SFits, toZ}
 use mir.ValLaws.{toZ-pos}
 use Rattle.language.specs.Text.Number.{alone, digit, digits, keep, negative, positive, readNatural, readNumber, shift, valueOf}
-use Rattle.text.specs.Numbers.{Beyond, BeyondZ, NaturalIs, NumberIs, Run, SmallNatural, Whole, minus, plus}
+use Rattle.text.specs.Numbers.{Beyond, BeyondZ, DigitsAre, NaturalIs, NumberIs, Run, SmallNatural, Whole, minus, plus}
+use Rattle.text.specs.Positions.{upTo}
 use Rattle.text.specs.declared.numbers.Natural.{Natural}
 use Rattle.text.specs.declared.numbers.Natural.the-variants.{Malformed, Plain}
 use Rattle.text.specs.declared.numbers.Number.the-variants.{Bad, Is}
+use Rattle.text.proofs.Positions.{up-more}
 
 -- ---- digits: `rest` is left of `f`, and those before have the value v
 
@@ -111,6 +113,28 @@ unfolding readNatural
 natural-zero [] h e = absurd (omega arith)
 natural-zero (c ∷ []) h e = absurd (omega arith)
 natural-zero (c ∷ d ∷ cs) h e = rw (eq-eqb c 48 e, and-false (digits (c ∷ d ∷ cs))) tt
+
+-- a row of digits that does not start with a zero
+pub natural-led : (f : List ℕ) (at : ℕ) → 0 < length f → (getD f 0 0 ≡ 48 → ⊥) → (n : Natural) → DigitsAre f at n → NaturalIs f at n
+natural-led f at some-digit led (Plain v end) r = go (eqb (length f) 1) refl
+  where
+    go : (b : Bool) → eqb (length f) 1 ≡ b → Whole f at v end
+    go true e = natural-one f at v end r (eqb-true (length f) 1 e)
+    go false e = let n : length f ≡ 1 → ⊥ = eqb-false (length f) 1 e in natural-more f at v end r (omega (arith, n)) led
+natural-led f at some-digit led Malformed d = natural-broken f d
+
+-- .. in a text, from byte `at` on to a comma
+module _ (text : List ℕ) (at : ℕ) (h : at < length text) (low : 49 ≤ getD text at 0) (high : getD text at 0 ≤ 57) where
+  led : upTo 44 (drop at text) ≡ getD text at 0 ∷ upTo 44 (drop (at + 1) text)
+  led = up-more 44 text at h (λ e. omega arith) (λ e. omega arith)
+
+  pub led-head : getD (upTo 44 (drop at text)) 0 0 ≡ getD text at 0
+  led-head = ap (λ (f : List ℕ). getD f 0 0) led
+
+  pub led-natural : (n : Natural) → DigitsAre (upTo 44 (drop at text)) at n → NaturalIs (upTo 44 (drop at text)) at n
+  led-natural n d =
+      let k : length (upTo 44 (drop at text)) ≡ suc (length (upTo 44 (drop (at + 1) text))) = ap length led in
+      natural-led (upTo 44 (drop at text)) at (omega (arith, k)) (λ e. omega (arith, led-head, e)) n d
 
 -- ---- numbers
 

@@ -114,3 +114,20 @@ pub fn read_number(text: &[u8], at: usize, stop: u8) -> Number
     }
     positive(read_natural(text, at, stop))
 }
+
+// A number in front of a comma. Most start with a digit above 0, and have no sign and no zero in front.
+pub fn figure_at(text: &[u8], at: usize) -> Number
+    requires { ⌜ at ≤ length (now text) ⌝ }
+    ensures { λ r. ⌜ NumberIs (upTo 44 (drop at (now (text .entry)))) at r ⌝ }
+{
+    if at < text.len() {
+        let c = text[at];
+        match c {
+            b'1'..=b'9' => {
+                return positive(digits(text, at, b','));
+            }
+            _ => {}
+        }
+    }
+    read_number(text, at, b',')
+}

@@ -15,7 +15,7 @@ use crate::fields::one_digit;
 use crate::fields::read_field;
 use crate::fields::read_ranged;
 use crate::numbers::Number;
-use crate::numbers::read_number;
+use crate::numbers::figure_at;
 use crate::settings::read_settings;
 
 pub enum Taking2 {
@@ -85,7 +85,7 @@ fn read_pair(text: &[u8], at: usize, first: u8, second: u8) -> Taking2
 }
 
 // A month and two more fields.
-fn after_month(text: &[u8], at: usize, second: u8, third: u8) -> Slots
+pub fn after_month(text: &[u8], at: usize, second: u8, third: u8) -> Slots
     requires { ⌜ at ≤ length (now text) + 1 ⌝ }
     ensures { λ r. ⌜ SlotsAre (month ∷ classesOfTwo second third) (now (text .entry)) at r ⌝ }
 {
@@ -148,7 +148,7 @@ pub fn read_figure(text: &[u8], at: usize) -> Slots
     requires { ⌜ at ≤ length (now text) ⌝ }
     ensures { λ r. ⌜ SlotsAre (figure ∷ []) (now (text .entry)) at r ⌝ }
 {
-    match read_number(text, at, b',') {
+    match figure_at(text, at) {
         Number::Is { value: a, end } => Slots::Filled {
             a,
             b: 0,

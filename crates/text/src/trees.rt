@@ -26,6 +26,7 @@ use crate::letters::branch_letter;
 use crate::letters::shape_of;
 use crate::number_of;
 use crate::slots::Slots;
+use crate::slots::after_month;
 use crate::slots::read_fields;
 use crate::slots::read_figure;
 use crate::slots::read_one;
@@ -212,20 +213,36 @@ fn plan_common(text: &[u8], at: usize, kind: u8) -> Common
     }
 }
 
-// An index of a payoff.
+// An index or a transfer of a payoff.
 fn payoff_common(text: &[u8], at: usize, kind: u8) -> Common
     requires { ⌜ (at + 2 ≤ length (now text)) × (getD (now text) (at + 1) 0 ≡ 44) ⌝ }
     ensures { λ r. ⌜ CommonIs payoffForm (kindAt kind) (now (text .entry)) at r ⌝ }
 {
-    if text[at] == b'O' {
-        if kind == AMOUNT {
-            return common_of(b'O', read_reading(text, at + 2), NONE);
+    let letter = text[at];
+    match letter {
+        b'O' => {
+            if kind == AMOUNT {
+                return common_of(b'O', read_reading(text, at + 2), NONE);
+            }
+            Common::Other
         }
+        b'F' => {
+            if kind == ROOT {
+                return common_of(b'F', after_month(text, at + 2, PARTY, PARTY), NONE);
+            }
+            Common::Other
+        }
+        b'H' => {
+            if kind == ROOT {
+                return common_of(b'H', after_month(text, at + 2, PARTY, PARTY), NONE);
+            }
+            Common::Other
+        }
+        _ => Common::Other,
     }
-    Common::Other
 }
 
-// Other common nodes: letters without fields and without two children, indexes, and transfers and delays of plans.
+// Other common nodes: letters without fields and without two children, indexes, transfers, and delays of plans.
 fn common_at(form: TextForm, text: &[u8], at: usize, kind: u8) -> Common
     requires { ⌜ 0 < kind ⌝ }
     ensures { λ r. ⌜ CommonIs (formOf form) (kindAt kind) (now (text .entry)) at r ⌝ }
