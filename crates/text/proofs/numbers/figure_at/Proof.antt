@@ -1,5 +1,5 @@
 use lib.ListN.{drop}
-use mathlib.Core.Path.{_∙_, subst, sym}
+use mathlib.Core.Path.{subst, sym}
 use native.Mathlib.Omega.{arith}
 use Rattle.text.specs.Numbers.{NumberIs}
 use Rattle.text.specs.Positions.{upTo}

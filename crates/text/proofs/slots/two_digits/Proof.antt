@@ -1,5 +1,4 @@
-use Prim.Native.Nat.{_+_, ℕ}
-use lib.IntN.{ℤ}
+use Prim.Native.Nat.{ℕ}
 use mathlib.Core.List.{[], _∷_}
 use mathlib.Core.Path.{subst}
 use mir.Syntax.{w64}

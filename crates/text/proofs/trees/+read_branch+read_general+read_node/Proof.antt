@@ -1,4 +1,4 @@
-use Prim.Native.Nat.{_%_, _*_, _+_, _-_, _/_}
+use Prim.Native.Nat.{_%_, _*_, _+_, _-_, _/_, _<_, ℕ}
 use borrow.Author.Needs.{needs}
 use mathlib.Core.Path.{_∙_, _≡_, subst, sym}
 use native.Mathlib.Omega.{arith}
@@ -7,7 +7,6 @@ use Rattle.text.specs.Trees.{LeafIs, OpenedIs, ReadIs}
 use Rattle.text.proofs.CommonLaws.{branch-opens}
 use Rattle.text.proofs.GrowLaws.{first-stops, node-leaf, node-one, node-three, node-two, positive, second-stops, third-stops}
 use Rattle.text.proofs.PackedLaws.{branch-done, branch-stops, branch-stops-later, grown-of, of-grown, of-refuses, refuses-of}
-use Prim.Native.Nat.{ℕ, _<_}
 use borrow.Fn.Kinds.{In}
 use borrow.Fn.PlainCycle.{Measures, is, falls, and}
 use Rattle.text.proofs.trees.read_branch.Reads as read-branch

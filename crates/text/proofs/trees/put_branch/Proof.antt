@@ -1,6 +1,6 @@
 use Prim.Native.Nat.{_-_}
-use mir.Syntax.{w64}
 use mathlib.Core.Path.{refl}
+use mir.Syntax.{w64}
 use mir.ValLaws.{toZ-pos}
 use native.Mathlib.Omega.{arith}
 use Rattle.text.proofs.RowLaws.{row-put}

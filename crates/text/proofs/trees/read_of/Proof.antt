@@ -1,4 +1,3 @@
-use Prim.Native.Nat.{_%_}
 use mathlib.Core.Path.{_∙_, ap, sym}
 use Rattle.text.specs.declared.trees.Read.the-variants.{Stopped}
 use Rattle.text.proofs.PackedLaws.{done-read, stopped-read}
