@@ -44,7 +44,7 @@ leafRow h = pos (h .letter) ∷ h .a ∷ h .b ∷ h .c ∷ h .d ∷ []
 abbrev pub overRow : Head → ℕ → ℕ → ℕ → List ℤ
 overRow h own second third = pos (h .letter) ∷ h .a ∷ h .b ∷ pos (second - own) ∷ pos (third - own) ∷ []
 
--- a node without fields; kids has the kinds of its two children, the second four times
+-- a node without fields; kids is the kind of its first child, and four times that of its second
 abbrev pub branchHead : ℕ → ℕ → ℕ → Head
 branchHead letter at kids = record { letter = letter; a = pos 0; b = pos 0; c = pos 0; d = pos 0; next = at + 2; kid1 = kids % 4; kid2 = kids / 4; kid3 = 0 }
 
