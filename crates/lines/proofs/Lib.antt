@@ -1,4 +1,5 @@
 -- Laws about a sheet's lines.
+pub mod FigureLaws
 pub mod IndexLaws
 pub mod IndexLists
 pub mod LineLaws

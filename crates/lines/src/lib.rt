@@ -15,6 +15,7 @@ use parts::Pair;
 use parts::Plan;
 
 pub mod ends;
+pub mod figures;
 pub mod indexes;
 pub mod numbers;
 pub mod parts;

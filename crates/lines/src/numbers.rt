@@ -3,6 +3,7 @@ ghost use mathlib.Core.Path.{_≡_};
 ghost use Prim.Native.Nat.{_+_, _≤_};
 ghost use lib.ListN.{length};
 ghost use Rattle.lines.specs.Numbers.{NumbersAre, TwoAre};
+use crate::figures;
 use text::numbers;
 use text::numbers::Number;
 
@@ -20,7 +21,7 @@ pub fn read_numbers(line: &[u8], at: usize, into: &mut [i64], from: usize) -> Nu
     let mut place = at;
     let mut count = 0;
     while place <= line.len() {
-        let number = numbers::read_number(line, place, b',');
+        let number = figures::figure(line, place);
         match number {
             Number::Is { value, end } => {
                 let k = from + count;

@@ -22,8 +22,8 @@ abbrev μ-loop : tie.MeasureT-loop
 loop-holds : tie.Need-loop-holds Inv-loop μ-loop
 loop-holds c = going-start (c .before .pre .0)
 
-read-number-requires : tie.Need-read-number-requires Inv-loop μ-loop
-read-number-requires c κs = (omega (arith, c .loop-test .taken), omega arith)
+figure-requires : tie.Need-figure-requires Inv-loop μ-loop
+figure-requires c κs = omega (arith, c .loop-test .taken)
 
 add-k : tie.Need-add-k Inv-loop μ-loop
 add-k c =
@@ -48,21 +48,21 @@ add-place : tie.Need-add-place Inv-loop μ-loop
 add-place c =
     let l = c .before .before .before .before .before .before in
     let p : l .loop .place ≤ length (l .before .before .args .line .now) = omega (arith, c .before .before .before .before .before .loop-test .taken) in
-    let s = subst (NumberIs (upTo 44 (drop (l .loop .place) (l .before .before .args .line .now))) (l .loop .place)) (c .before .before .number .given .1) (c .before .before .before .before .read-number .ensures) in
+    let s = subst (NumberIs (upTo 44 (drop (l .loop .place) (l .before .before .args .line .now))) (l .loop .place)) (c .before .before .number .given .1) (c .before .before .before .before .figure .ensures) in
     record { fits = omega (arith, number-inside _ _ p s .1, l .before .before .pre .2) }
 
 loop-less : tie.Need-loop-less Inv-loop μ-loop
 loop-less c =
     let l = c .before .before .before .before .before .before in
     let p : l .loop .place ≤ length (l .before .before .args .line .now) = omega (arith, c .before .before .before .before .before .loop-test .taken) in
-    let s = subst (NumberIs (upTo 44 (drop (l .loop .place) (l .before .before .args .line .now))) (l .loop .place)) (c .before .before .number .given .1) (c .before .before .before .before .read-number .ensures) in
+    let s = subst (NumberIs (upTo 44 (drop (l .loop .place) (l .before .before .args .line .now))) (l .loop .place)) (c .before .before .number .given .1) (c .before .before .before .before .figure .ensures) in
     omega (arith, number-inside _ _ p s .0, number-inside _ _ p s .1)
 
 loop-again : tie.Need-loop-again Inv-loop μ-loop
 loop-again c =
     let l = c .before .before .before .before .before .before in
     let p : l .loop .place ≤ length (l .before .before .args .line .now) = omega (arith, c .before .before .before .before .before .loop-test .taken) in
-    let s = subst (NumberIs (upTo 44 (drop (l .loop .place) (l .before .before .args .line .now))) (l .loop .place)) (c .before .before .number .given .1) (c .before .before .before .before .read-number .ensures) in
+    let s = subst (NumberIs (upTo 44 (drop (l .loop .place) (l .before .before .args .line .now))) (l .loop .place)) (c .before .before .number .given .1) (c .before .before .before .before .figure .ensures) in
     let f : SFits w64 (c .before .before .number .given .0 .0) = search needs in
     ⊎-elim
     (λ t. subst (λ x. Going (l .before .before .args .line .now) (l .before .before .args .at) (l .before .before .args .into .now) (l .before .before .args .from) x (c .before .before .number .given .0 .1 .0 + 1) (l .loop .count + 1)) (sym (t .1)) (going-kept (l .loop .inv) p s (toZ-ofZ f) (t .0 .taken)))
@@ -76,7 +76,7 @@ returns : tie.Need-returns Inv-loop μ-loop
 returns c =
     let l = c .before .before .before .before in
     let p : l .loop .place ≤ length (l .before .before .args .line .now) = omega (arith, c .before .before .before .loop-test .taken) in
-    going-bad (l .loop .inv) (number-bad _ _ p (subst (NumberIs (upTo 44 (drop (l .loop .place) (l .before .before .args .line .now))) (l .loop .place)) (c .enum-told .given .1) (c .before .before .read-number .ensures)))
+    going-bad (l .loop .inv) (number-bad _ _ p (subst (NumberIs (upTo 44 (drop (l .loop .place) (l .before .before .args .line .now))) (l .loop .place)) (c .enum-told .given .1) (c .before .before .figure .ensures)))
 
 same-length-2 : tie.Need-same-length-2 Inv-loop μ-loop
 same-length-2 c = c .before .loop .inv .size
@@ -91,7 +91,7 @@ read-numbers-spec =
     Inv-loop
     μ-loop
     loop-holds
-    read-number-requires
+    figure-requires
     (λ c. search needs)
     add-k
     mul-value
