@@ -9,7 +9,7 @@ use Rattle.compiles.specs.Months.{Near, laterDigits, laterPlain}
 use Rattle.compiles.specs.Ready.{Ready}
 use Rattle.copies.proofs.LyingParts.{Three, Two, laid, lying-below, three-lie, two-lie}
 use Rattle.copies.proofs.PlanLetters.{Is, is-so, letter-is, some-depth}
-use Rattle.copies.proofs.Shapes.{amount-shape, plan-shape, test-shape}
+use Rattle.copies.proofs.Shapes.{amount-shape, is-node, plan-shape, test-shape}
 use Rattle.copies.specs.Lies.{Lies}
 use Rattle.language.specs.Limits.{maxNodes}
 use Rattle.language.specs.Payoff.Compile.{delayed}
@@ -72,7 +72,7 @@ module _ {plain digits : ℤ} {nodes : List ℤ} {at to left : ℕ} (y : Ready p
   module _ (i : Is letter.Scale (y .plan)) where
     pub scale-parts : Two nodes at to (amountTree aNumber (i .0)) (planTrees (i .1) end)
     unfolding planTrees
-    scale-parts = two-lie (ofRoot text.PlanLetter.S) [] (amount-shape aNumber (i .0)) (known-lies (scale (i .0) (i .1)) (i .2))
+    scale-parts = two-lie (ofRoot text.PlanLetter.S) [] (amount-shape aNumber (i .0)) (is-node (plan-shape (i .1)) end) (known-lies (scale (i .0) (i .1)) (i .2))
 
     pub scale-fields : fieldsOfAmount offsetInForm (i .0) × fieldsOf delayInForm (i .1)
     unfolding fieldsOf
@@ -124,7 +124,7 @@ module _ {plain digits : ℤ} {nodes : List ℤ} {at to left : ℕ} (y : Ready p
   module _ (i : Is letter.Both (y .plan)) where
     pub both-parts : Two nodes at to (planTrees (i .0)) (planTrees (i .1) end)
     unfolding planTrees
-    both-parts = two-lie (ofRoot text.PlanLetter.B) [] (plan-shape (i .0)) (known-lies (both (i .0) (i .1)) (i .2))
+    both-parts = two-lie (ofRoot text.PlanLetter.B) [] (plan-shape (i .0)) (is-node (plan-shape (i .1)) end) (known-lies (both (i .0) (i .1)) (i .2))
 
     pub both-fields : fieldsOf delayInForm (i .0) × fieldsOf delayInForm (i .1)
     unfolding fieldsOf
@@ -145,7 +145,7 @@ module _ {plain digits : ℤ} {nodes : List ℤ} {at to left : ℕ} (y : Ready p
   module _ (i : Is letter.Within (y .plan)) where
     pub within-parts : Three nodes at to (testTree aNumber (i .1)) (planTrees (i .2)) (planTrees (i .3) end)
     unfolding planTrees
-    within-parts = three-lie (ofRoot text.PlanLetter.W) (aDelay (i .0) ∷ []) (test-shape aNumber (i .1)) (plan-shape (i .2)) (known-lies (within (i .0) (i .1) (i .2) (i .3)) (i .4))
+    within-parts = three-lie (ofRoot text.PlanLetter.W) (aDelay (i .0) ∷ []) (test-shape aNumber (i .1)) (plan-shape (i .2)) (is-node (plan-shape (i .3)) end) (known-lies (within (i .0) (i .1) (i .2) (i .3)) (i .4))
 
     pub within-fields : delayInForm (i .0) × fieldsOfTest offsetInForm (i .1) × fieldsOf delayInForm (i .2) × fieldsOf delayInForm (i .3)
     unfolding fieldsOf

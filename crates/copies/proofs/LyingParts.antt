@@ -4,13 +4,13 @@ use lib.IntN.{pos, ℤ}
 use mathlib.Core.List.{List, [], _++_, append-assoc, append-nil}
 use mathlib.Core.Path.{_∙_, _≡_, ap, refl, subst, sym}
 use native.Mathlib.Omega.{arith}
-use Rattle.copies.proofs.Shapes.{Shape}
+use Rattle.copies.proofs.Shapes.{Shape, is-node}
 use Rattle.copies.specs.Lies.{Lies}
 use Rattle.language.specs.Text.Classes.{Field}
 use Rattle.language.specs.Text.Letters.{Letter, PlanLetter, planForm, rowOf}
 use Rattle.language.specs.Text.Reader.{Trees, end, node}
-use Rattle.nodes.proofs.Laid.{Laid, laid-behind, laid-child, laid-slot}
-use Rattle.nodes.specs.Rows.{behindFirst, countOf, firstCount, lastSlots, rowFor, rows, slotsOf}
+use Rattle.nodes.proofs.Laid.{IsNode, Laid, laid-behind, laid-child, laid-slot, link-is}
+use Rattle.nodes.specs.Rows.{behindFirst, countOf, firstCount, lastSlots, linkTo, rowFor, rows, slotsOf}
 use Rattle.nodes.specs.Stands.{Forward}
 use Rattle.nodes.specs.Table.{linkAt, slotAt}
 
@@ -69,21 +69,21 @@ module _ {nodes : List ℤ} where
 
   -- ---- links
   module _ {at to : ℕ} (l : Letter PlanLetter) (fs : List Field) (m : Letter PlanLetter) (gs : List Field) (c t : Trees PlanLetter) (h : Lies nodes at to (node l fs (node m gs c t) end)) where
-    to-second : slotAt nodes at 3 ≡ pos (1 + (1 + countOf c))
-    unfolding lastSlots firstCount
+    to-second : slotAt nodes at 3 ≡ pos (linkTo t (1 + (1 + countOf c)))
+    unfolding lastSlots firstCount behindFirst
     to-second = laid-slot planForm nodes l fs (laid h) 3 (omega arith)
 
-    to-third : slotAt nodes at 4 ≡ pos (1 + (1 + countOf c + firstCount t))
+    to-third : slotAt nodes at 4 ≡ pos (linkTo (behindFirst t) (1 + (1 + countOf c + firstCount t)))
     unfolding lastSlots firstCount behindFirst
     to-third = laid-slot planForm nodes l fs (laid h) 4 (omega arith)
 
-    second : linkAt nodes at 3 ≡ at + 1 + (1 + countOf c)
+    second : IsNode t → linkAt nodes at 3 ≡ at + 1 + (1 + countOf c)
     unfolding linkAt
-    second = rw to-second (omega arith)
+    second n = rw (to-second, link-is t (1 + (1 + countOf c)) n) (omega arith)
 
-    third : linkAt nodes at 4 ≡ at + 1 + (1 + countOf c) + firstCount t
+    third : IsNode (behindFirst t) → linkAt nodes at 4 ≡ at + 1 + (1 + countOf c) + firstCount t
     unfolding linkAt
-    third = rw to-third (omega arith)
+    third n = rw (to-third, link-is (behindFirst t) (1 + (1 + countOf c + firstCount t)) n) (omega arith)
 
     forward : Forward nodes at 3
     forward = rw to-second tt
@@ -91,11 +91,11 @@ module _ {nodes : List ℤ} where
     forward-again : Forward nodes at 4
     forward-again = rw to-third tt
 
-  pub two-lie : {at to : ℕ} (l : Letter PlanLetter) (fs : List Field) {one : Trees PlanLetter → Trees PlanLetter} {two : Trees PlanLetter} → Shape one → Lies nodes at to (node l fs (one two) end) → Two nodes at to one two
-  two-lie {at} {to} l fs {one} {two} s h =
+  pub two-lie : {at to : ℕ} (l : Letter PlanLetter) (fs : List Field) {one : Trees PlanLetter → Trees PlanLetter} {two : Trees PlanLetter} → Shape one → IsNode two → Lies nodes at to (node l fs (one two) end) → Two nodes at to one two
+  two-lie {at} {to} l fs {one} {two} s n h =
       let g : Lies nodes at to (node l fs (node (s .letter) (s .fields) (s .below) two) end) = subst (λ c. Lies nodes at to (node l fs c end)) (s .is two) h in
       let b = lying-below l fs g in
-      let e = second l fs (s .letter) (s .fields) (s .below) two g in
+      let e = second l fs (s .letter) (s .fields) (s .below) two g n in
       record {
         below = lying-below l fs h;
         first = rw (s .is end) (first-lies (s .letter) (s .fields) (s .below) two b e);
@@ -103,16 +103,16 @@ module _ {nodes : List ℤ} where
         forward = forward l fs (s .letter) (s .fields) (s .below) two g;
       }
 
-  pub three-lie : {at to : ℕ} (l : Letter PlanLetter) (fs : List Field) {one two : Trees PlanLetter → Trees PlanLetter} {three : Trees PlanLetter} → Shape one → Shape two
+  pub three-lie : {at to : ℕ} (l : Letter PlanLetter) (fs : List Field) {one two : Trees PlanLetter → Trees PlanLetter} {three : Trees PlanLetter} → Shape one → Shape two → IsNode three
       → Lies nodes at to (node l fs (one (two three)) end) → Three nodes at to one two three
-  unfolding firstCount
-  three-lie {at} {to} l fs {one} {two} {three} s u h =
-      let p = two-lie l fs s h in
+  unfolding firstCount behindFirst
+  three-lie {at} {to} l fs {one} {two} {three} s u n h =
+      let p = two-lie l fs s (is-node u three) h in
       let b : Lies nodes (linkAt nodes at 3) to (node (u .letter) (u .fields) (u .below) three) = subst (Lies nodes (linkAt nodes at 3) to) (u .is three) (p .second) in
       let g : Lies nodes at to (node l fs (node (s .letter) (s .fields) (s .below) (node (u .letter) (u .fields) (u .below) three)) end) =
       subst (λ c. Lies nodes at to (node l fs c end)) (s .is (two three) ∙ ap (node (s .letter) (s .fields) (s .below)) (u .is three)) h in
-      let i = second l fs (s .letter) (s .fields) (s .below) (node (u .letter) (u .fields) (u .below) three) g in
-      let j = third l fs (s .letter) (s .fields) (s .below) (node (u .letter) (u .fields) (u .below) three) g in
+      let i = second l fs (s .letter) (s .fields) (s .below) (node (u .letter) (u .fields) (u .below) three) g tt in
+      let j = third l fs (s .letter) (s .fields) (s .below) (node (u .letter) (u .fields) (u .below) three) g n in
       let e : linkAt nodes at 4 ≡ linkAt nodes at 3 + (1 + countOf (u .below)) = omega (arith, i, j) in
       record {
         below = p .below;

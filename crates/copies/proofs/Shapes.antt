@@ -10,6 +10,7 @@ use Rattle.language.specs.Text.Plans.{Written, payoffTrees, planTrees}
 use Rattle.language.specs.Text.Reader.{Trees, end, node}
 use Rattle.language.specs.Text.Trees.{Amount, Delay, Plan, Test, await, both, choose, conjunction, difference, disjunction, equal, index, later, leaf, less, negation, nil, nothing, number, plus, product, quotient, scale, sum, times, transfer, within}
 use Rattle.language.specs.Text.Typed.{amountTree, testTree}
+use Rattle.nodes.proofs.Laid.{IsNode}
 use Rattle.nodes.specs.Rows.{slotsOf}
 
 module _ {P : Type 0} where
@@ -32,6 +33,9 @@ module _ {P : Type 0} where
   -- its rows, then those of the others
   pub plain-apart : {tree : Trees P → Trees P} → Shape tree → (form : Form P) (r : Trees P) → plainRows form (tree r) ≡ plainRows form (tree end) ++ plainRows form r
   plain-apart s form r = rw (s .is r, s .is end) (apart form (s .letter) (s .fields) (s .below) r)
+
+  pub is-node : {tree : Trees P → Trees P} → Shape tree → (r : Trees P) → IsNode (tree r)
+  is-node s r = rw (s .is r) tt
 
   -- ---- a node with children
 

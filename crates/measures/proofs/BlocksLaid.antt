@@ -10,7 +10,7 @@ use Rattle.language.specs.Text.Trees.{Amount, Delay, Plan, Test, both, choose, 
 use Rattle.language.specs.Text.Typed.{amountTree, testTree}
 use Rattle.measures.specs.Blocks.{AmountBlock, PlanBlocks, TestBlock}
 use Rattle.nodes.proofs.AmountsFound.{amount-first, byte-at, second-at, test-first, third-at}
-use Rattle.nodes.proofs.Laid.{IsNode, Laid, inner, laid-child, laid-slot}
+use Rattle.nodes.proofs.Laid.{IsNode, Laid, inner, laid-child, laid-slot, link-is}
 use Rattle.nodes.proofs.PlansFound.{plan-first}
 use Rattle.nodes.specs.Letters.{amountLetter, planLetter, testLetter}
 use Rattle.nodes.specs.Rows.{behindFirst, countOf, firstCount, lastSlots, secondLink, slotsOf, thirdLink}
@@ -18,7 +18,7 @@ use Rattle.nodes.specs.Table.{linkAt, slotAt}
 use lib.IntN.{pos, ℤ}
 use lib.ListN.{getD}
 use mathlib.Core.List.{List, [], _∷_}
-use mathlib.Core.Path.{_∙_, _≡_, ap, refl}
+use mathlib.Core.Path.{_∙_, _≡_, ap, refl, subst, sym}
 use native.Mathlib.Omega.{arith}
 
 module _ {P : Type 0} where
@@ -38,15 +38,18 @@ nothing-left = refl
 module _ (nodes : List ℤ) where
   -- where the second and the third child of a node stand
   record Links (at : ℕ) (c : Trees PlanLetter) : Type 0 where
-    pub second : linkAt nodes at 3 ≡ at + 1 + firstCount c
-    pub third : linkAt nodes at 4 ≡ at + 1 + firstCount c + firstCount (behindFirst c)
+    pub second : IsNode (behindFirst c) → linkAt nodes at 3 ≡ at + 1 + firstCount c
+    pub third : IsNode (behindFirst (behindFirst c)) → linkAt nodes at 4 ≡ at + 1 + firstCount c + firstCount (behindFirst c)
 
   links : {at : ℕ} {c t : Trees PlanLetter} (l : Letter PlanLetter) (fs : List Field) → Laid planForm nodes at (node l fs c t) → IsNode c → Links at c
   unfolding linkAt lastSlots
   links {at} {c} l fs h n =
       let e : slotAt nodes at 3 ≡ pos (secondLink c) = laid-slot planForm nodes l fs h 3 (omega arith) ∙ ap (λ x. getD x 0 (pos 0)) (last c n) in
       let f : slotAt nodes at 4 ≡ pos (thirdLink c) = laid-slot planForm nodes l fs h 4 (omega arith) ∙ ap (λ x. getD x 1 (pos 0)) (last c n) in
-      record { second = rw e (omega arith); third = rw f (omega arith) }
+      record {
+        second = λ i. rw (e, link-is (behindFirst c) (1 + firstCount c) i) (omega arith);
+        third = λ i. rw (f, link-is (behindFirst (behindFirst c)) (1 + (firstCount c + firstCount (behindFirst c))) i) (omega arith);
+      }
     where
       last : (c : Trees PlanLetter) → IsNode c → lastSlots (slotsOf fs) c ≡ pos (secondLink c) ∷ pos (thirdLink c) ∷ []
       last end n = absurd n
@@ -73,9 +76,9 @@ module _ (nodes : List ℤ) where
     two-amounts a b h e fa fb =
         let f = amount-first aNumber a (aTree b end) in
         let i = inner planForm nodes l [] h (f .0) in
-        let k = links l [] h (f .0) in
-        let n : to ≡ linkAt nodes at 3 + firstCount (aTree b end) = omega (arith, e, k .second, aCount a (aTree b end), aCount b end, nothing-left) in
-        (fa (aTree b end) (at + 1) (linkAt nodes at 3) (i .first) (k .second), fb end (linkAt nodes at 3) to (second-at planForm nodes i (f .1)) n)
+        let k = links l [] h (f .0) .second (subst IsNode (sym (f .1)) (amount-first aNumber b end .0)) in
+        let n : to ≡ linkAt nodes at 3 + firstCount (aTree b end) = omega (arith, e, k, aCount a (aTree b end), aCount b end, nothing-left) in
+        (fa (aTree b end) (at + 1) (linkAt nodes at 3) (i .first) k, fb end (linkAt nodes at 3) to (second-at planForm nodes i (f .1)) n)
 
     two-tests : (a b : Test ℤ) → Laid planForm nodes at (node l [] (tTree a (tTree b end)) r) → to ≡ at + (1 + countOf (tTree a (tTree b end)))
         → ((s : Trees PlanLetter) (p q : ℕ) → Laid planForm nodes p (tTree a s) → q ≡ p + firstCount (tTree a s) → TestBlock left nodes p q)
@@ -84,9 +87,9 @@ module _ (nodes : List ℤ) where
     two-tests a b h e fa fb =
         let f = test-first aNumber a (tTree b end) in
         let i = inner planForm nodes l [] h (f .0) in
-        let k = links l [] h (f .0) in
-        let n : to ≡ linkAt nodes at 3 + firstCount (tTree b end) = omega (arith, e, k .second, tCount a (tTree b end), tCount b end, nothing-left) in
-        (fa (tTree b end) (at + 1) (linkAt nodes at 3) (i .first) (k .second), fb end (linkAt nodes at 3) to (second-at planForm nodes i (f .1)) n)
+        let k = links l [] h (f .0) .second (subst IsNode (sym (f .1)) (test-first aNumber b end .0)) in
+        let n : to ≡ linkAt nodes at 3 + firstCount (tTree b end) = omega (arith, e, k, tCount a (tTree b end), tCount b end, nothing-left) in
+        (fa (tTree b end) (at + 1) (linkAt nodes at 3) (i .first) k, fb end (linkAt nodes at 3) to (second-at planForm nodes i (f .1)) n)
 
   mutual
     unfolding AmountBlock TestBlock amountTree testTree depthOfAmount depthOfTest amountLetter testLetter rowOf amountRow testRow firstCount
@@ -123,11 +126,13 @@ module _ (nodes : List ℤ) where
         let g = amount-first aNumber a (aTree b end) in
         let i = inner planForm nodes l [] h (f .0) in
         let k = links l [] h (f .0) in
-        let m : linkAt nodes at 4 ≡ linkAt nodes at 3 + firstCount (aTree a (aTree b end)) = rw (← f .1) (omega (arith, k .second, k .third)) in
-        let x = test-block t (aTree a (aTree b end)) (at + 1) left (linkAt nodes at 3) (i .first) (omega arith) (k .second) in
+        let s = k .second (subst IsNode (sym (f .1)) (g .0)) in
+        let u = k .third (subst IsNode (sym (ap behindFirst (f .1) ∙ g .1)) (amount-first aNumber b end .0)) in
+        let m : linkAt nodes at 4 ≡ linkAt nodes at 3 + firstCount (aTree a (aTree b end)) = rw (← f .1) (omega (arith, s, u)) in
+        let x = test-block t (aTree a (aTree b end)) (at + 1) left (linkAt nodes at 3) (i .first) (omega arith) s in
         let y = amount-block a (aTree b end) (linkAt nodes at 3) left (linkAt nodes at 4) (second-at planForm nodes i (f .1)) (omega arith) m in
         let w : to ≡ linkAt nodes at 4 + firstCount (aTree b end) =
-        omega (arith, e, m, k .second, tCount t (aTree a (aTree b end)), aCount a (aTree b end), aCount b end, nothing-left) in
+        omega (arith, e, m, s, tCount t (aTree a (aTree b end)), aCount a (aTree b end), aCount b end, nothing-left) in
         let z = amount-block b end (linkAt nodes at 4) left to (third-at planForm nodes i (f .1) (g .1)) (omega arith) w in
         rw (byte-at planForm nodes l [] (tTree t (aTree a (aTree b end))) h) (x, y, z)
 
@@ -166,8 +171,8 @@ module _ (nodes : List ℤ) where
       let l = ofRoot PlanLetter.S in
       let f = amount-first aNumber a (planTrees x end) in
       let i = inner planForm nodes l [] h (f .0) in
-      let k = links l [] h (f .0) in
-      let u = amount-block a (planTrees x end) (at + 1) maxNodes (linkAt nodes at 3) (i .first) (omega arith) (k .second) in
+      let k = links l [] h (f .0) .second (subst IsNode (sym (f .1)) (plan-first x end .0)) in
+      let u = amount-block a (planTrees x end) (at + 1) maxNodes (linkAt nodes at 3) (i .first) (omega arith) k in
       let y = plan-blocks x end (linkAt nodes at 3) left (second-at planForm nodes i (f .1)) (omega arith) (omega arith) in
       rw (byte-at planForm nodes l [] (aTree a (planTrees x end)) h) (u, y)
   plan-blocks (later t x) r at zero h d b = absurd (omega arith)
@@ -188,8 +193,8 @@ module _ (nodes : List ℤ) where
       let l = ofRoot PlanLetter.W in
       let f = test-first aNumber c (planTrees x (planTrees y end)) in
       let i = inner planForm nodes l (aDelay t ∷ []) h (f .0) in
-      let k = links l (aDelay t ∷ []) h (f .0) in
-      let u = test-block c (planTrees x (planTrees y end)) (at + 1) maxNodes (linkAt nodes at 3) (i .first) (omega arith) (k .second) in
+      let k = links l (aDelay t ∷ []) h (f .0) .second (subst IsNode (sym (f .1)) (plan-first x (planTrees y end) .0)) in
+      let u = test-block c (planTrees x (planTrees y end)) (at + 1) maxNodes (linkAt nodes at 3) (i .first) (omega arith) k in
       let v = plan-blocks x (planTrees y end) (linkAt nodes at 3) left (second-at planForm nodes i (f .1)) (omega arith) (omega arith) in
       let w = plan-blocks y end (linkAt nodes at 4) left (third-at planForm nodes i (f .1) (plan-first x (planTrees y end) .1)) (omega arith) (omega arith) in
       rw (byte-at planForm nodes l (aDelay t ∷ []) (tTree c (planTrees x (planTrees y end))) h) (u, v, w)

@@ -11,7 +11,7 @@ use native.Mathlib.Omega.{arith}
 use Rattle.language.specs.Limits.{maxNodes}
 use Rattle.language.specs.Text.Letters.{Form, rowOf}
 use Rattle.language.specs.Text.Reader.{Trees, end, node}
-use Rattle.nodes.specs.Rows.{behindFirst, countOf, firstCount, lastSlots, rowFor, rows, secondLink, slotsOf, thirdLink}
+use Rattle.nodes.specs.Rows.{behindFirst, countOf, firstCount, lastSlots, linkTo, rowFor, rows, secondLink, slotsOf, thirdLink}
 use Rattle.nodes.specs.Table.{linkAt, slotAt}
 
 module _ {P : Type 0} where
@@ -31,6 +31,11 @@ module _ {P : Type 0} where
   abbrev pub IsNode : Trees P → Type 0
   IsNode end = ⊥
   IsNode (node l fs c t) = Unit {0}
+
+  pub link-is : (t : Trees P) (n : ℕ) → IsNode t → linkTo t n ≡ n
+  unfolding linkTo
+  link-is end n h = absurd h
+  link-is (node l fs c t) n h = refl
 
   -- the trees t lie in the table from node `at` on
   pub record Laid (form : Form P) (nodes : List ℤ) (at : ℕ) (t : Trees P) : Type 0 where
@@ -85,6 +90,12 @@ module _ {P : Type 0} where
     links slots end h = absurd h
     links slots (node l fs c t) h = refl
 
+    -- no trees lie anywhere; others lie where the link leads
+    linked : (at n : ℕ) (t : Trees P) → at ≤ maxNodes → Laid form nodes (at + n) t → Laid form nodes (at + linkTo t n) t
+    unfolding linkTo rows countOf
+    linked at n end r h = record { rest = drop ((at + 0) * 5) nodes; is = refl; room = omega arith }
+    linked at n (node l fs c t) r h = h
+
     -- what a walk learns at a node whose children are c
     pub record Inner (at : ℕ) (c : Trees P) : Type 0 where
       pub first : Laid form nodes (at + 1) c
@@ -100,12 +111,14 @@ module _ {P : Type 0} where
         let last = links (slotsOf fs) c n in
         let e₃ : slotAt nodes at 3 ≡ pos (secondLink c) = laid-slot l fs h 3 (omega arith) ∙ ap (λ x. getD x 0 (pos 0)) last in
         let e₄ : slotAt nodes at 4 ≡ pos (thirdLink c) = laid-slot l fs h 4 (omega arith) ∙ ap (λ x. getD x 1 (pos 0)) last in
-        let p₃ : (at + 1) + firstCount c ≡ at + secondLink c = omega arith in
-        let p₄ : ((at + 1) + firstCount c) + firstCount (behindFirst c) ≡ at + thirdLink c = omega arith in
+        let p₃ : (at + 1) + firstCount c ≡ at + (1 + firstCount c) = omega arith in
+        let p₄ : ((at + 1) + firstCount c) + firstCount (behindFirst c) ≡ at + (1 + (firstCount c + firstCount (behindFirst c))) = omega arith in
+        let r : at ≤ maxNodes = omega (arith, h .room) in
         record {
           first = below;
-          second = rw e₃ (subst (λ i. Laid form nodes i (behindFirst c)) p₃ (laid-rest c below));
-          third = rw e₄ (subst (λ i. Laid form nodes i (behindFirst (behindFirst c))) p₄ (laid-rest (behindFirst c) (laid-rest c below)));
+          second = rw e₃ (linked at (1 + firstCount c) (behindFirst c) r (subst (λ i. Laid form nodes i (behindFirst c)) p₃ (laid-rest c below)));
+          third = rw e₄ (linked at (1 + (firstCount c + firstCount (behindFirst c))) (behindFirst (behindFirst c)) r
+              (subst (λ i. Laid form nodes i (behindFirst (behindFirst c))) p₄ (laid-rest (behindFirst c) (laid-rest c below))));
           forward = rw e₃ tt;
           forwardAgain = rw e₄ tt;
         }

@@ -1,10 +1,10 @@
 -- A pass over the rows of trees is a change of their nodes' fields.
 use Prim.Native.Nat.{_+_, suc, ℕ}
-use lib.IntN.{ℤ}
-use lib.ListN.{drop, take}
+use lib.IntN.{pos, ℤ}
+use lib.ListN.{drop, getD, take}
 use lib.Seq.{drop-at, take-at}
 use mathlib.Core.Bool.{Bool, _&&_, false, true}
-use mathlib.Core.List.{List, _++_, append-assoc}
+use mathlib.Core.List.{List, [], _++_, _∷_, append-assoc}
 use mathlib.Core.Path.{_∙_, _≡_, ap, ap₂, refl, sym}
 use native.Mathlib.Omega.{arith}
 use Rattle.language.specs.Text.Classes.{Field}
@@ -12,7 +12,7 @@ use Rattle.language.specs.Text.Letters.{Form, Letter, rowOf}
 use Rattle.language.specs.Text.Reader.{Trees, end, node}
 use Rattle.nodes.proofs.Laid.{row-length}
 use Rattle.nodes.specs.Pass.{allRows, mapRows}
-use Rattle.nodes.specs.Rows.{behindFirst, countOf, firstCount, lastSlots, rowFor, rows, slotsOf}
+use Rattle.nodes.specs.Rows.{behindFirst, countOf, firstCount, lastSlots, linkTo, rowFor, rows, secondLink, slotsOf, thirdLink}
 
 pub and-assoc : (a b c : Bool) → a && (b && c) ≡ (a && b) && c
 and-assoc true b c = refl
@@ -45,15 +45,34 @@ module _ {P : Type 0} where
     changed-first end = refl
     changed-first (node l fs c t) = rw (changed-count c) refl
 
-    changed-behind : (t : Trees P) → firstCount (behindFirst (changed g t)) ≡ firstCount (behindFirst t)
+    changed-behind : (t : Trees P) → behindFirst (changed g t) ≡ changed g (behindFirst t)
     unfolding changed behindFirst
     changed-behind end = refl
-    changed-behind (node l fs c t) = changed-first t
+    changed-behind (node l fs c t) = refl
+
+    changed-link : (t : Trees P) (n : ℕ) → linkTo (changed g t) n ≡ linkTo t n
+    unfolding changed linkTo
+    changed-link end n = refl
+    changed-link (node l fs c t) n = refl
+
+    changed-second : (c : Trees P) → secondLink (changed g c) ≡ secondLink c
+    changed-second c =
+        ap (λ t. linkTo t (1 + firstCount (changed g c))) (changed-behind c) ∙ changed-link (behindFirst c) (1 + firstCount (changed g c))
+        ∙ ap (λ n. linkTo (behindFirst c) (1 + n)) (changed-first c)
+
+    changed-third : (c : Trees P) → thirdLink (changed g c) ≡ thirdLink c
+    changed-third c =
+        let two : behindFirst (behindFirst (changed g c)) ≡ changed g (behindFirst (behindFirst c)) = ap behindFirst (changed-behind c) ∙ changed-behind (behindFirst c) in
+        let one : firstCount (behindFirst (changed g c)) ≡ firstCount (behindFirst c) = ap firstCount (changed-behind c) ∙ changed-first (behindFirst c) in
+        ap (λ t. linkTo t (1 + (firstCount (changed g c) + firstCount (behindFirst (changed g c))))) two
+        ∙ changed-link (behindFirst (behindFirst c)) (1 + (firstCount (changed g c) + firstCount (behindFirst (changed g c))))
+        ∙ ap₂ (λ m n. linkTo (behindFirst (behindFirst c)) (1 + (m + n))) (changed-first c) one
 
     pub changed-row : (letter : ℕ) (slots : List ℤ) (c : Trees P) → rowFor letter slots (changed g c) ≡ rowFor letter slots c
     unfolding lastSlots changed
     changed-row letter slots end = refl
-    changed-row letter slots (node l fs c t) = rw (changed-first (node l fs c t), changed-behind (node l fs c t)) refl
+    changed-row letter slots (node l fs c t) =
+        ap₂ (λ m n. pos letter ∷ getD slots 0 (pos 0) ∷ getD slots 1 (pos 0) ∷ pos m ∷ pos n ∷ []) (changed-second (node l fs c t)) (changed-third (node l fs c t))
 
   module _ (form : Form P) where
     -- the first row, and what stands behind it

@@ -1,5 +1,5 @@
 -- The node table: five numbers a node, outermost first. The first is the letter's byte, the next its fields; a node with children has in
--- the last two how far behind it the second and the third child stand.
+-- the last two how far behind it the second and the third child stand, or 0 where it has none.
 use Prim.Native.Nat.{_%_, _+_, _/_, _^_, suc, zero, ℕ}
 use lib.IntN.{negsuc, pos, ℤ}
 use lib.ListN.{getD, replicate}
@@ -67,12 +67,17 @@ module _ {P : Type 0} where
   behindFirst end = end
   behindFirst (node l fs c t) = t
 
+  -- a link to trees that stand n rows behind: 0 where there are none
+  unfoldable pub linkTo : Trees P → ℕ → ℕ
+  linkTo end n = 0
+  linkTo (node l fs c t) n = n
+
   -- how far behind a node with these children the second and the third of them stand
   abbrev pub secondLink : Trees P → ℕ
-  secondLink c = 1 + firstCount c
+  secondLink c = linkTo (behindFirst c) (1 + firstCount c)
 
   abbrev pub thirdLink : Trees P → ℕ
-  thirdLink c = 1 + (firstCount c + firstCount (behindFirst c))
+  thirdLink c = linkTo (behindFirst (behindFirst c)) (1 + (firstCount c + firstCount (behindFirst c)))
 
   -- the last two numbers of a row: fields of a node without children, links of one with children
   unfoldable pub lastSlots : List ℤ → Trees P → List ℤ

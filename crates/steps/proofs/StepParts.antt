@@ -11,7 +11,7 @@ use Rattle.amounts.specs.Flat.{flat}
 use Rattle.amounts.specs.Placed.{placeIn, placedAmount, placedPlan, placedTest}
 use Rattle.copies.proofs.LyingParts.{Three, Two, laid, lying-below, three-lie, two-lie}
 use Rattle.copies.proofs.PlanLetters.{letterOf}
-use Rattle.copies.proofs.Shapes.{amount-shape, plan-shape, test-shape}
+use Rattle.copies.proofs.Shapes.{amount-shape, is-node, plan-shape, test-shape}
 use Rattle.copies.specs.Lies.{Lies}
 use Rattle.language.specs.Calls.{lookupOf}
 use Rattle.language.specs.Limits.{maxMonths, maxNodes}
@@ -58,7 +58,7 @@ module _ {t : Table} {r : ℕ} {nodes : List ℤ} {at to left : ℕ} where
 
   pub scale-lies : (a : Amount ℤ) (x : Plan ℕ) → Steps t r nodes at to left (scale a x) → Two nodes at to (amountTree aNumber (placedAmount (placeIn t) a)) (planTrees (closed (placedPlan (placeIn t) x)) end)
   unfolding planTrees mapPlan placedPlan
-  scale-lies a x s = two-lie (ofRoot text.PlanLetter.S) [] (amount-shape aNumber (placedAmount (placeIn t) a)) (s .lies)
+  scale-lies a x s = two-lie (ofRoot text.PlanLetter.S) [] (amount-shape aNumber (placedAmount (placeIn t) a)) (is-node (plan-shape (closed (placedPlan (placeIn t) x))) end) (s .lies)
 
   pub scale-steps : (a : Amount ℤ) (x : Plan ℕ) → Steps t r nodes at to left (scale a x) → Steps t r nodes (linkAt nodes at 3) to (left - 1) x
   unfolding fieldsOf readsOf everyInPlan depthOf
@@ -81,7 +81,7 @@ module _ {t : Table} {r : ℕ} {nodes : List ℤ} {at to left : ℕ} where
 
   pub both-lie : (x y : Plan ℕ) → Steps t r nodes at to left (both x y) → Two nodes at to (planTrees (closed (placedPlan (placeIn t) x))) (planTrees (closed (placedPlan (placeIn t) y)) end)
   unfolding planTrees mapPlan placedPlan
-  both-lie x y s = two-lie (ofRoot text.PlanLetter.B) [] (plan-shape (closed (placedPlan (placeIn t) x))) (s .lies)
+  both-lie x y s = two-lie (ofRoot text.PlanLetter.B) [] (plan-shape (closed (placedPlan (placeIn t) x))) (is-node (plan-shape (closed (placedPlan (placeIn t) y))) end) (s .lies)
 
   pub first-steps : (x y : Plan ℕ) → Steps t r nodes at to left (both x y) → Steps t r nodes (at + 1) (linkAt nodes at 3) (left - 1) x
   unfolding fieldsOf readsOf everyInPlan depthOf
@@ -96,7 +96,7 @@ module _ {t : Table} {r : ℕ} {nodes : List ℤ} {at to left : ℕ} where
   module _ (d : ℕ) (u : Test ℤ) (x y : Plan ℕ) (s : Steps t r nodes at to left (within d u x y)) where
     pub within-lies : Three nodes at to (testTree aNumber (placedTest (placeIn t) u)) (planTrees (closed (placedPlan (placeIn t) x))) (planTrees (closed (placedPlan (placeIn t) y)) end)
     unfolding planTrees mapPlan placedPlan
-    within-lies = three-lie (ofRoot text.PlanLetter.W) (aDelay (months d) ∷ []) (test-shape aNumber (placedTest (placeIn t) u)) (plan-shape (closed (placedPlan (placeIn t) x))) (s .lies)
+    within-lies = three-lie (ofRoot text.PlanLetter.W) (aDelay (months d) ∷ []) (test-shape aNumber (placedTest (placeIn t) u)) (plan-shape (closed (placedPlan (placeIn t) x))) (is-node (plan-shape (closed (placedPlan (placeIn t) y))) end) (s .lies)
 
     pub within-slots : (slotAt nodes at 0 ≡ pos 87) × (slotAt nodes at 1 ≡ pos d)
     unfolding planTrees mapPlan placedPlan rowOf planRow slotsOf fieldSlots delaySlot

@@ -95,6 +95,10 @@ number-digit f c e l h =
 
 -- ---- by class
 
+high-in : (z : ℤ) → natAbs z ≤ 9000000000000 → leZ z (pos 9000000000000) ≡ true
+high-in (pos n) h = le-leb n 9000000000000 h
+high-in (negsuc n) h = refl
+
 pub by-class : (Q : Class → Range → Type 0) (c : ℕ)
     → Q figure (from (negℤ (pos 9000000000000)) (pos 9000000000000)) → (c ≡ 2 → Q delay (from (pos 0) (pos 600))) → Q label (from (pos 0) (pos 7))
     → Q fromNode (from (negℤ (pos 60)) (pos 600)) → Q divisor (from (pos 1) (pos 9000000000000)) → Q party (from (pos 1) (pos 9)) → Q (classOf c) (rangeOf c)
@@ -182,3 +186,8 @@ module _ (f : List ℕ) where
   pub figure-fails : BeyondZ (readNumber f) → fieldOf figure f ≡ none
   unfolding rangeOf fieldOf
   figure-fails h = fails figure _ _ refl (ranged-beyond (rangeOf 1) (limited 1) (readNumber f) h)
+
+  -- and one from 1 on is a divisor
+  pub divisor-reads : (z : ℤ) → natAbs z ≤ 9000000000000 → ltZ z (pos 1) ≡ false → readNumber f ≡ some z → Held divisor f (z ∷ [])
+  unfolding fieldOf
+  divisor-reads z h l e = held divisor z (pos 1) (pos 9000000000000) refl (rw (e, ge-le z (pos 1) l, high-in z h) refl)

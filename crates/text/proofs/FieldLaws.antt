@@ -13,10 +13,12 @@ use Rattle.language.specs.Text.Letters.{Class, month}
 use Rattle.language.specs.Text.Reader.{readFields}
 use Rattle.nodes.specs.Rows.{slotsOf}
 use Rattle.text.specs.Classes.{classOf, rangeOf}
-use Rattle.text.specs.Fields.{DigitIs, Four, Malformed, MonthIs, PairIs, ReadUpTo, Taken, TakenIs, TriedIs, Two, behind, classesOfThree, classesOfTwo, firstAs}
+use Rattle.text.specs.Fields.{DigitIs, Four, Malformed, MonthIs, PairIs, ReadUpTo, SlotsAre, SlotsTried, Taken, TakenIs, TriedIs, Two, behind, classesOfThree, classesOfTwo, firstAs}
 use Rattle.text.specs.Positions.{fieldsFrom, upTo}
 use Rattle.text.specs.declared.fields.Taking.{Taking}
 use Rattle.text.specs.declared.fields.Taking.the-variants.{Value, Wrong}
+use Rattle.text.specs.declared.slots.Slots.{Slots}
+use Rattle.text.specs.declared.slots.Slots.the-variants.{Filled, Unfilled}
 use Rattle.text.specs.declared.slots.Taking2.{Taking2}
 use Rattle.text.specs.declared.slots.Taking2.the-variants.{Values, Wrongs}
 use Rattle.text.proofs.ClassLaws.{Held, number-digit, plain-fails, plain-reads}
@@ -221,3 +223,8 @@ module _ (text : List ℕ) (at : ℕ) where
     third = rw (t .slot, u .slot) refl;
     fourth = rw (t .slot, u .slot) refl;
   })
+
+-- where all is known of fields, something is
+pub are-tried : (cs : List Class) (text : List ℕ) (at : ℕ) (r : Slots) → SlotsAre cs text at r → SlotsTried cs text at r
+are-tried cs text at (Filled a b c d next) f = f
+are-tried cs text at Unfilled f = tt

@@ -1,5 +1,5 @@
 -- Laws of the letter table: a letter that is known with its row, and one that is not.
-use Prim.Native.Nat.{_%_, _/_, _<_, ℕ}
+use Prim.Native.Nat.{_%_, _/_, ℕ}
 use borrow.Author.Tests.{eqb-false, eqb-true, leb-true}
 use lib.Dec.{eqb, leb}
 use mathlib.Core.Bool.{Bool, _&&_, false, true}
@@ -10,7 +10,7 @@ use native.Mathlib.Omega.{arith}
 use Rattle.language.proofs.Truth.{and-e}
 use Rattle.language.specs.Text.Letters.{Class, Form, Kind, Letter, amount, kindOf, letterAmong, payoffForm, planForm, root, rootsThen, rowOf, test}
 use Rattle.text.specs.Fields.{classesOfThree}
-use Rattle.text.specs.Letters.{BareIs, BranchIs, ShapeFor, ShapeIs, Shaped, bareShape, formOf, kindNumber, kinds}
+use Rattle.text.specs.Letters.{BareIs, ShapeFor, ShapeIs, Shaped, bareShape, formOf, kindNumber, kinds}
 use Rattle.text.specs.declared.letters.Shape.{Shape}
 use Rattle.text.specs.declared.letters.TextForm.{TextForm}
 use Rattle.text.specs.declared.letters.TextForm.the-variants.{Payoff, Plan}
@@ -104,11 +104,3 @@ bare-in k p a b Payoff = has-row payoffForm k p b
 
 pub bare-row : (letter k p : ℕ) → letter ≡ k → eqb k 44 ≡ false → hasRow planForm k p ≡ true → hasRow payoffForm k p ≡ true → BareIs letter p
 bare-row letter k p e n a b = record { is = λ q form. rw e (bare-in k p a b form); other = λ q f. eqb-false k 44 n (sym e ∙ f) }
-
--- ---- and with two children
-
-pub branch-none : (letter : ℕ) → BranchIs letter 0
-branch-none letter = record { bare = bare-none letter; first = λ n. absurd (n refl); second = λ n. absurd (n refl); two = omega arith }
-
-pub branch-row : (letter k p : ℕ) → letter ≡ k → eqb k 44 ≡ false → hasRow planForm k p ≡ true → hasRow payoffForm k p ≡ true → 0 < p / 4 % 4 → 0 < p / 16 → p < 64 → BranchIs letter p
-branch-row letter k p e n a b first second two = record { bare = bare-row letter k p e n a b; first = λ q. first; second = λ q. second; two = two }

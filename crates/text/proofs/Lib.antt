@@ -8,8 +8,10 @@ pub mod MonthParts
 pub mod MonthLaws
 pub mod LetterLaws
 pub mod OpenLaws
-pub mod CommonLaws
 pub mod RowLaws
-pub mod GrowLaws
+pub mod QuickLaws
 pub mod PackedLaws
+pub mod Nesting
+pub mod NestingLaws
+pub mod WholeLaws
 pub mod TextLaws

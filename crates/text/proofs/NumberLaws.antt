@@ -15,7 +15,7 @@ use mir.Syntax.{w64}
 use mir.Val.{SFits, toZ}
 use mir.ValLaws.{toZ-pos}
 use Rattle.language.specs.Text.Number.{alone, digit, digits, keep, negative, positive, readNatural, readNumber, shift, valueOf}
-use Rattle.text.specs.Numbers.{Beyond, BeyondZ, DigitsAre, NaturalIs, NumberIs, Run, SmallNatural, Whole, minus, plus}
+use Rattle.text.specs.Numbers.{Beyond, BeyondZ, DigitsAre, FewAre, NaturalIs, NumberIs, NumberTried, Run, SmallNatural, Whole, minus, plus}
 use Rattle.text.specs.Positions.{upTo}
 use Rattle.text.specs.declared.numbers.Natural.{Natural}
 use Rattle.text.specs.declared.numbers.Natural.the-variants.{Malformed, Plain}
@@ -207,3 +207,17 @@ minus-some v end z h e = rw (ne-eqb v 0 h, e) refl
 pub minus-bad : Bad ≡ minus Malformed
 unfolding minus
 minus-bad = refl
+
+-- ---- up to three digits
+
+pub few-small : (f : List ℕ) (at : ℕ) (n : Natural) → FewAre f at n → SmallNatural n
+few-small f at (Plain v end) r = r .small
+few-small f at Malformed r = tt
+
+-- with a digit above 0 in front
+pub tried-plus : (text : List ℕ) (at : ℕ) → at < length text → 48 < getD text at 0 → getD text at 0 ≤ 57 → (n : Natural) → FewAre (upTo 44 (drop at text)) at n
+    → NumberTried (upTo 44 (drop at text)) at (plus n)
+unfolding plus
+tried-plus text at h l u (Plain v end) r =
+    number-plus (upTo 44 (drop at text)) at (λ e. omega (arith, led-head text at h l u, e)) (Plain v end) (led-natural text at h l u (Plain v end) r)
+tried-plus text at h l u Malformed r = tt

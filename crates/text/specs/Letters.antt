@@ -1,5 +1,5 @@
 -- The letter table as the code has it: kinds and classes by number.
-use Prim.Native.Nat.{_%_, _/_, _<_, _≤_, ℕ}
+use Prim.Native.Nat.{_%_, _/_, _≤_, ℕ}
 use lib.Dec.{eqb}
 use mathlib.Core.Bool.{cond}
 use mathlib.Core.List.{List, [], _∷_}
@@ -62,10 +62,3 @@ bareShape p = record { kind = p % 4; first = 0; second = 0; third = 0; kid1 = p 
 pub record BareIs (letter p : ℕ) : Type 0 where
   pub is : (p ≡ 0 → ⊥) → (form : TextForm) → ShapeIs (formOf form) letter (bareShape p)
   pub other : (p ≡ 0 → ⊥) → letter ≡ byte "," → ⊥
-
--- the same for a letter with two children
-pub record BranchIs (letter p : ℕ) : Type 0 where
-  pub bare : BareIs letter p
-  pub first : (p ≡ 0 → ⊥) → 0 < p / 4 % 4
-  pub second : (p ≡ 0 → ⊥) → 0 < p / 16
-  pub two : p < 64

@@ -8,4 +8,6 @@ pub mod Settings
 pub mod Fields
 pub mod Letters
 pub mod Trees
+pub mod Rows
 pub mod Packed
+pub mod Whole

@@ -26,6 +26,11 @@ abbrev pub DigitsAre : List ℕ → ℕ → Natural → Type 0
 DigitsAre f at (Plain v end) = Run f at v end
 DigitsAre f at Malformed = (digits f ≡ false) ⊎ (maxAmount < valueOf f)
 
+-- where up to three digits in front of a comma were looked for, and any others are not told
+abbrev pub FewAre : List ℕ → ℕ → Natural → Type 0
+FewAre f at (Plain v end) = Run f at v end
+FewAre f at Malformed = Unit {0}
+
 -- no number, or one that no field may hold
 abbrev pub Beyond : Option ℕ → Type 0
 Beyond none = Unit {0}
@@ -64,3 +69,8 @@ pub record Signed (f : List ℕ) (at : ℕ) (z : ℤ) (end : ℕ) : Type 0 where
 abbrev pub NumberIs : List ℕ → ℕ → Number → Type 0
 NumberIs f at (Is z end) = Signed f at z end
 NumberIs f at Bad = BeyondZ (readNumber f)
+
+-- where only some numbers were looked for
+abbrev pub NumberTried : List ℕ → ℕ → Number → Type 0
+NumberTried f at (Is z end) = Signed f at z end
+NumberTried f at Bad = Unit {0}

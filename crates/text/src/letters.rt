@@ -1,7 +1,7 @@
 // The letter table: which letters a text has, and what stands behind each.
 ghost use mathlib.Core.Path.{_≡_};
 ghost use Rattle.language.specs.Text.Letters.{planForm, payoffForm};
-ghost use Rattle.text.specs.Letters.{BareIs, BranchIs, formOf, ShapeIs};
+ghost use Rattle.text.specs.Letters.{BareIs, formOf, ShapeIs};
 use crate::fields::DELAY;
 use crate::fields::DIVISOR;
 use crate::fields::FIGURE;
@@ -123,9 +123,9 @@ pub fn shape_of(form: TextForm, letter: u8) -> Shape
     }
 }
 
-// A letter without fields and with two children, of either text, in one byte: its kind, and 4 and 16 times the kinds of its children. 0 for any other.
-pub fn branch_letter(letter: u8) -> u8
-    ensures { λ r. ⌜ BranchIs letter r ⌝ }
+// A letter without fields, of either text, in one byte: its kind, and 4, 16 and 64 times the kinds of its children. 0 for any other.
+pub fn bare_letter(letter: u8) -> u8
+    ensures { λ r. ⌜ BareIs letter r ⌝ }
 {
     match letter {
         b'S' => 25,
@@ -137,15 +137,6 @@ pub fn branch_letter(letter: u8) -> u8
         b'E' => 43,
         b'Y' => 63,
         b'V' => 63,
-        _ => 0,
-    }
-}
-
-// The other letters without fields, with 64 times the kind of a third child. 0 for any other.
-pub fn bare_letter(letter: u8) -> u8
-    ensures { λ r. ⌜ BareIs letter r ⌝ }
-{
-    match letter {
         b'Z' => 1,
         b'I' => 174,
         b'R' => 15,

@@ -10,16 +10,15 @@ ghost use Rattle.text.specs.Refusals.{numberOf};
 mod fields;
 mod letters;
 pub mod numbers;
+mod quick;
 mod settings;
 mod slots;
 mod trees;
+mod whole;
 
-use letters::ROOT;
 use letters::TextForm;
-use trees::MAX_DEPTH;
-use trees::Read;
-use trees::read_general;
-use trees::read_of;
+use whole::Read;
+use whole::read_rows;
 
 pub enum Refusal {
     TooLong,
@@ -83,7 +82,7 @@ fn read_text(form: TextForm, text: &[u8], nodes: &mut [i64]) -> Reading
     if longest(form) < text.len() {
         return Reading::Refused(Refusal::TooLong);
     }
-    match read_of(read_general(form, text, 0, ROOT, nodes, 0, MAX_DEPTH)) {
+    match read_rows(form, text, nodes) {
         Read::Done { next, count } => {
             if next <= text.len() {
                 Reading::Refused(Refusal::NotOfForm)

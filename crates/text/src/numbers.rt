@@ -1,9 +1,9 @@
 // Whole numbers, read from a byte on up to a comma, a byte `stop` or the end of the text.
 ghost use mathlib.Core.Path.{_≡_};
-ghost use Prim.Native.Nat.{_≤_, _<_};
+ghost use Prim.Native.Nat.{_+_, _≤_, _<_};
 ghost use lib.ListN.{length, drop};
 ghost use Rattle.text.specs.Positions.{upTo};
-ghost use Rattle.text.specs.Numbers.{DigitsAre, NaturalIs, NumberIs, SmallNatural, plus, minus};
+ghost use Rattle.text.specs.Numbers.{DigitsAre, FewAre, NaturalIs, NumberIs, NumberTried, SmallNatural, plus, minus};
 
 pub enum Natural {
     Plain { value: u64, end: usize },
@@ -130,4 +130,44 @@ pub fn figure_at(text: &[u8], at: usize) -> Number
         }
     }
     read_number(text, at, b',')
+}
+
+// Up to three digits in front of a comma; any others are tried again.
+fn short_digits(text: &[u8], at: usize) -> Natural
+    requires { ⌜ at + 4 ≤ length (now text) ⌝ }
+    ensures { λ r. ⌜ FewAre (upTo 44 (drop at (now (text .entry)))) at r ⌝ }
+{
+    let mut v: u64 = 0;
+    let mut i = at;
+    while i < at + 3 {
+        let b = text[i];
+        match b {
+            b'0'..=b'9' => {
+                v = v * 10 + (b - 48) as u64;
+                if text[i + 1] == b',' {
+                    return Natural::Plain {
+                        value: v,
+                        end: i + 1,
+                    };
+                }
+            }
+            _ => {
+                return Natural::Malformed;
+            }
+        }
+        i += 1;
+    }
+    Natural::Malformed
+}
+
+// A number of up to three digits in front of a comma, with no zero in front; any other is tried again.
+pub fn short_number(text: &[u8], at: usize) -> Number
+    requires { ⌜ at + 4 ≤ length (now text) ⌝ }
+    ensures { λ r. ⌜ NumberTried (upTo 44 (drop at (now (text .entry)))) at r ⌝ }
+{
+    let c = text[at];
+    match c {
+        b'1'..=b'9' => positive(short_digits(text, at)),
+        _ => Number::Bad,
+    }
 }

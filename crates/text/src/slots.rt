@@ -2,7 +2,7 @@
 ghost use mathlib.Core.List.{_∷_, []};
 ghost use Prim.Native.Nat.{_+_, _≤_};
 ghost use lib.ListN.{length};
-ghost use Rattle.language.specs.Text.Letters.{figure, month};
+ghost use Rattle.language.specs.Text.Letters.{divisor, figure, month};
 ghost use Rattle.text.specs.Classes.{classOf};
 ghost use Rattle.text.specs.Fields.{MonthIs, MonthTried, PairIs, SlotsAre, SlotsTried, classesOfTwo, classesOfThree};
 use crate::fields::LABEL;
@@ -16,6 +16,7 @@ use crate::fields::read_field;
 use crate::fields::read_ranged;
 use crate::numbers::Number;
 use crate::numbers::figure_at;
+use crate::numbers::short_number;
 use crate::settings::read_settings;
 
 pub enum Taking2 {
@@ -144,7 +145,7 @@ fn after_field(text: &[u8], at: usize, first: u8, second: u8, third: u8) -> Slot
 }
 
 // The field of a node whose only one is a figure.
-pub fn read_figure(text: &[u8], at: usize) -> Slots
+fn read_figure(text: &[u8], at: usize) -> Slots
     requires { ⌜ at ≤ length (now text) ⌝ }
     ensures { λ r. ⌜ SlotsAre (figure ∷ []) (now (text .entry)) at r ⌝ }
 {
@@ -156,6 +157,45 @@ pub fn read_figure(text: &[u8], at: usize) -> Slots
             d: 0,
             next: end + 1,
         },
+        Number::Bad => Slots::Unfilled,
+    }
+}
+
+// The same where most figures have up to three digits; any that is not of the form is tried again.
+pub fn quick_figure(text: &[u8], at: usize) -> Slots
+    requires { ⌜ at + 4 ≤ length (now text) ⌝ }
+    ensures { λ r. ⌜ SlotsTried (figure ∷ []) (now (text .entry)) at r ⌝ }
+{
+    match short_number(text, at) {
+        Number::Is { value: a, end } => Slots::Filled {
+            a,
+            b: 0,
+            c: 0,
+            d: 0,
+            next: end + 1,
+        },
+        Number::Bad => read_figure(text, at),
+    }
+}
+
+// A divisor of up to three digits; any other is tried again.
+pub fn quick_divisor(text: &[u8], at: usize) -> Slots
+    requires { ⌜ at + 4 ≤ length (now text) ⌝ }
+    ensures { λ r. ⌜ SlotsTried (divisor ∷ []) (now (text .entry)) at r ⌝ }
+{
+    match short_number(text, at) {
+        Number::Is { value: a, end } => {
+            if a < 1 {
+                return Slots::Unfilled;
+            }
+            Slots::Filled {
+                a,
+                b: 0,
+                c: 0,
+                d: 0,
+                next: end + 1,
+            }
+        }
         Number::Bad => Slots::Unfilled,
     }
 }
@@ -172,26 +212,6 @@ pub fn read_one(text: &[u8], at: usize, class: u8) -> Slots
             c: 0,
             d: 0,
             next,
-        },
-        Taking::Wrong => Slots::Unfilled,
-    }
-}
-
-// The fields of a node with two that are no months.
-pub fn read_two(text: &[u8], at: usize, first: u8, second: u8) -> Slots
-    requires { ⌜ at ≤ length (now text) + 1 ⌝ }
-    ensures { λ r. ⌜ SlotsAre (classOf first ∷ classOf second ∷ []) (now (text .entry)) at r ⌝ }
-{
-    match read_field(text, at, first) {
-        Taking::Value { value: a, next } => match read_field(text, next, second) {
-            Taking::Value { value: b, next: n } => Slots::Filled {
-                a,
-                b,
-                c: 0,
-                d: 0,
-                next: n,
-            },
-            Taking::Wrong => Slots::Unfilled,
         },
         Taking::Wrong => Slots::Unfilled,
     }
@@ -280,30 +300,6 @@ pub fn transfer_digits(text: &[u8], at: usize) -> Slots
                 Taking::Wrong => Slots::Unfilled,
             },
             Taking::Wrong => Slots::Unfilled,
-        },
-        Taking::Wrong => Slots::Unfilled,
-    }
-}
-
-// A label and a month.
-pub fn read_reading(text: &[u8], at: usize) -> Slots
-    requires { ⌜ at ≤ length (now text) + 1 ⌝ }
-    ensures { λ r. ⌜ SlotsAre (classOf 4 ∷ month ∷ []) (now (text .entry)) at r ⌝ }
-{
-    match read_field(text, at, LABEL) {
-        Taking::Value { value: a, next } => match read_month(text, next) {
-            Taking2::Values {
-                a: b,
-                b: c,
-                next: n,
-            } => Slots::Filled {
-                a,
-                b,
-                c,
-                d: 0,
-                next: n,
-            },
-            Taking2::Wrongs => Slots::Unfilled,
         },
         Taking::Wrong => Slots::Unfilled,
     }
