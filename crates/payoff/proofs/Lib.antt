@@ -1,8 +1,8 @@
--- Laws of payoffs in the node table.
+-- Laws of payoffs, in the node table and as text.
 pub mod CompileTexts
+pub mod Copied
 pub mod Cuts
 pub mod Evaluations
 pub mod FilledRanges
-pub mod Relabelled
 pub mod TableFacts
 pub mod Texts

@@ -1,56 +1,47 @@
--- The call: a text that is read is cut in the table, and its rows are written.
-use Prim.Native.Nat.{_*_, _≤_, ℕ}
+-- The call cut: a text that is read is a payoff's printed text, so its bytes are cut as they stand.
+use Prim.Native.Nat.{_<_, _≤_, ℕ}
+use borrow.Author.Tests.{le-leb, lt-leb}
 use lib.IntN.{ℤ}
-use lib.ListN.{drop, take-append-drop}
-use mathlib.Core.List.{List, _++_}
+use lib.ListN.{length, length-map}
+use mathlib.Core.List.{List, map}
 use mathlib.Core.Path.{_∙_, _≡_, ap, refl, sym}
 use native.Mathlib.Omega.{arith}
-use Rattle.language.proofs.Text.Compiled.{cut-formed}
-use Rattle.language.proofs.Text.Payoffs.{PayoffRead, payoff-trees}
+use Rattle.language.proofs.Text.Payoffs.{PayoffRead, payoff-read, payoff-trees}
 use Rattle.language.specs.Answer.{got, refused}
-use Rattle.language.specs.Calls.{cutCall, cutText, intoBuffer}
-use Rattle.language.specs.Limits.{maxNodes}
+use Rattle.language.specs.Calls.{cutCall, cutText, intoBuffer, over}
 use Rattle.language.specs.Payoff.Compile.{cutPayoff}
 use Rattle.language.specs.Text.Letters.{payoffForm}
-use Rattle.language.specs.Text.Plans.{payoffTrees, printPayoff, readPayoff}
-use Rattle.language.specs.Text.Reader.{end, readText}
-use Rattle.nodes.proofs.Counts.{payoff-rows}
-use Rattle.nodes.specs.Pass.{mapRows}
-use Rattle.nodes.specs.Rows.{countOf, rows}
-use Rattle.payoff.proofs.Cuts.{count-cut, rows-cut}
+use Rattle.language.specs.Text.Plans.{printPayoff, readPayoff}
+use Rattle.language.specs.Text.Reader.{readText}
+use Rattle.payoff.proofs.Cuts.{text-cut}
 use Rattle.payoff.specs.Answers.{writingAnswer}
-use Rattle.payoff.specs.Cut.{cutRow}
-use Rattle.payoff.specs.declared.Writing.the-variants.{Refused}
+use Rattle.payoff.specs.Cut.{cutByte}
+use Rattle.payoff.specs.declared.Writing.the-variants.{Bytes, Refused}
 use Rattle.text.specs.ReadInto as read
 use Rattle.text.specs.Refusals.{numberOf}
 use Rattle.text.specs.declared.Refusal.{Refusal}
-use Rattle.writer.proofs.Payoffs.{written-payoff}
-use Rattle.writer.specs.Answers.{writeCall}
-use Rattle.writer.specs.Written.{written}
+use Rattle.text.specs.declared.Refusal.the-variants.{NoRoom}
 
 module _ (text : List ℕ) where
-  module _ (nodes : List ℤ) (n : ℕ) (s : read.Stands payoffForm (readText payoffForm text) nodes n) where
-    abbrev was : PayoffRead text (s .tree)
-    was = payoff-trees text (s .tree) (s .is)
+  module _ {nodes : List ℤ} {n : ℕ} (s : read.Stands payoffForm (readText payoffForm text) nodes n) where
+    is-cut : cutText text ≡ got (record { value = tt; text = map cutByte text })
+    unfolding cutText
+    is-cut =
+        let was : PayoffRead text (s .tree) = payoff-trees text (s .tree) (s .is) in
+        let printed : printPayoff (was .payoff) ≡ text = payoff-read text (was .payoff) (was .is) .1 in
+        let same : printPayoff (cutPayoff (was .payoff)) ≡ map cutByte text = sym (text-cut (was .payoff) (was .formed .fields)) ∙ ap (map cutByte) printed in
+        rw (was .is, same) refl
 
-    counted : n ≡ countOf (payoffTrees (was .payoff) end)
-    counted = s .count ∙ ap countOf (was .trees)
+    pub cut-is : (buffer : List ℕ) → length text ≤ length buffer → (out : List ℕ) → out ≡ over (map cutByte text) buffer →
+        (out ≡ cutCall text buffer .buffer) × (writingAnswer (Bytes (length text)) ≡ cutCall text buffer .answer)
+    unfolding cutCall intoBuffer writingAnswer
+    cut-is buffer h out e =
+        let room = le-leb (length (map cutByte text)) (length buffer) (omega (arith, length-map text cutByte)) in
+        (rw (is-cut, room) e, rw (is-cut, room, length-map text cutByte) refl)
 
-    pub few : n ≤ maxNodes
-    few = omega (arith, counted, payoff-rows (was .payoff) (was .formed))
-
-    whole : nodes ≡ rows payoffForm (payoffTrees (was .payoff) end) ++ drop (5 * n) nodes
-    whole = sym (take-append-drop (5 * n) nodes) ∙ ap (λ x. x ++ drop (5 * n) nodes) (s .rows ∙ ap (rows payoffForm) (was .trees))
-
-    is-written : (after : List ℤ) → after ≡ mapRows cutRow n nodes → written n after ≡ printPayoff (cutPayoff (was .payoff))
-    is-written after e =
-        ap (written n) (e ∙ ap (mapRows cutRow n) whole ∙ ap (λ m. mapRows cutRow m (rows payoffForm (payoffTrees (was .payoff) end) ++ drop (5 * n) nodes)) counted ∙ rows-cut (was .payoff) (drop (5 * n) nodes))
-        ∙ ap (λ m. written m (rows payoffForm (payoffTrees (cutPayoff (was .payoff)) end) ++ drop (5 * n) nodes)) (counted ∙ sym (count-cut (was .payoff)))
-        ∙ written-payoff (cutPayoff (was .payoff)) (cut-formed (was .payoff) (was .formed)) (drop (5 * n) nodes)
-
-    pub cut-is : (after : List ℤ) → after ≡ mapRows cutRow n nodes → (buffer : List ℕ) → writeCall n after buffer ≡ cutCall text buffer
-    unfolding writeCall cutCall cutText
-    cut-is after e buffer = ap (λ w. intoBuffer buffer (got (record { value = tt; text = w }))) (is-written after e) ∙ rw (was .is) refl
+    pub no-room : (buffer : List ℕ) → length buffer < length text → (buffer ≡ cutCall text buffer .buffer) × (writingAnswer (Refused NoRoom) ≡ cutCall text buffer .answer)
+    unfolding cutCall intoBuffer writingAnswer
+    no-room buffer h = let short = lt-leb (length (map cutByte text)) (length buffer) (omega (arith, length-map text cutByte)) in (rw (is-cut, short) refl, rw (is-cut, short) refl)
 
   module _ (buffer : List ℕ) (k : Refusal) (e : readText payoffForm text ≡ refused (numberOf k)) where
     pub kept : buffer ≡ cutCall text buffer .buffer

@@ -1,14 +1,14 @@
 // Payoffs: compiling, cutting and evaluating.
 ghost use mathlib.Core.Path.{_≡_};
-ghost use Prim.Native.Nat.{_*_, _+_, _≤_};
+ghost use Prim.Native.Nat.{_≤_};
 ghost use lib.ListN.{length};
 ghost use mathlib.Core.Bool.{_&&_};
+ghost use mathlib.Core.List.{map};
 ghost use lib.IntN.{pos};
-ghost use Rattle.language.specs.Calls.{compileCall, cutCall, evaluateCall, pairOk};
+ghost use Rattle.language.specs.Calls.{compileCall, cutCall, evaluateCall, over, pairOk};
 ghost use Rattle.language.specs.Text.Number.{between};
-ghost use Rattle.nodes.specs.Pass.{mapRows, rowFrom, withRow};
 ghost use Rattle.payoff.specs.Answers.{writingAnswer};
-ghost use Rattle.payoff.specs.Cut.{cutRow};
+ghost use Rattle.payoff.specs.Cut.{cutByte};
 ghost use Rattle.payoff.specs.Evaluating.{EvaluateIs, Stands, evaluatingAnswer, givenOf};
 ghost use Rattle.worths.specs.Answers.{worthAnswer};
 ghost use Rattle.writer.specs.Answers.{writtenAnswer};
@@ -29,31 +29,23 @@ pub enum Writing {
     Refused(Refusal),
 }
 
-// An `F` becomes an `H`.
-pub fn cut_row(nodes: &mut [i64], at: usize)
-    requires { ⌜ at + 5 ≤ length (now nodes) ⌝ }
-    ensures { λ r. ⌜ now (nodes .exit) ≡ withRow at (cutRow (rowFrom at (now (nodes .entry)))) (now (nodes .entry)) ⌝ }
+// In a payoff's text only the letter of an uncut leaf is an `F`.
+fn cut_byte(b: u8) -> u8
+    ensures { λ r. ⌜ r ≡ cutByte b ⌝ }
 {
-    let letter = nodes[at];
-    match letter {
-        70 => {
-            nodes[at] = 72;
-        }
-        _ => {}
-    }
+    if b == b'F' { b'H' } else { b }
 }
 
-// The first rows, cut.
-pub fn cut_rows(nodes: &mut [i64], count: usize)
-    requires { ⌜ 5 * count ≤ length (now nodes) ⌝ }
-    ensures { λ r. ⌜ now (nodes .exit) ≡ mapRows cutRow count (now (nodes .entry)) ⌝ }
+// The text, cut, from the first byte of `out` on. A text that is read is the one text of its payoff, so it is cut as it stands.
+fn put_cut(text: &[u8], out: &mut [u8])
+    requires { ⌜ length (now text) ≤ length (now out) ⌝ }
+    ensures { λ r. ⌜ now (out .exit) ≡ over (map cutByte (now (text .entry))) (now (out .entry)) ⌝ }
 {
     let mut i = 0;
-    let mut at = 0;
-    while i < count {
-        cut_row(nodes, at);
+    while i < text.len() {
+        let b = cut_byte(text[i]);
+        out[i] = b;
         i += 1;
-        at += 5;
     }
 }
 
@@ -74,9 +66,13 @@ pub fn cut(text: &[u8], out: &mut [u8]) -> Writing
     let mut nodes = [0i64; 2560];
     let reading = text::read_payoff(text, &mut nodes);
     match reading {
-        Reading::Nodes(count) => {
-            cut_rows(&mut nodes, count);
-            told(writer::write_text(&nodes, count, out))
+        Reading::Nodes(_) => {
+            if out.len() < text.len() {
+                Writing::Refused(Refusal::NoRoom)
+            } else {
+                put_cut(text, out);
+                Writing::Bytes(text.len())
+            }
         }
         Reading::Refused(refusal) => Writing::Refused(refusal),
     }
