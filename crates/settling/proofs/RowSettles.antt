@@ -2,12 +2,12 @@
 use Prim.Native.Nat.{_*_, _+_, _<_, _≤_, ℕ}
 use borrow.Author.Tests.{leb-true}
 use lib.Dec.{T, leb}
-use lib.IntN.{_+ℤ_, natAbs, pos, ℤ}
+use lib.IntN.{+ℤ-idr, _+ℤ_, natAbs, pos, ℤ}
 use lib.ListN.{drop, getD, length, length-append, length-set, set, take}
-use lib.Seq.{drop-at, drop-drop, getD-drop, getD-take, length-take-le, take-at}
+use lib.Seq.{drop-at, drop-drop, getD-drop, getD-take, length-take-le, set-getD, take-at}
 use lib.Signed.{nonNeg}
 use mathlib.Core.Bool.{Bool, _||_, cond, false, true, true≢false}
-use mathlib.Core.List.{List, _++_}
+use mathlib.Core.List.{List, [], _++_}
 use mathlib.Core.Path.{_∙_, _≡_, ap, ap₂, refl, subst, sym}
 use mir.Facts.{toZ-ofZ}
 use mir.Syntax.{w64}
@@ -19,15 +19,15 @@ use Rattle.integers.proofs.Locals.{rd}
 use Rattle.integers.specs.Equal.{eqZ}
 use Rattle.language.proofs.Truth.{and-e, truth}
 use Rattle.language.specs.Limits.{maxMonth}
-use Rattle.language.specs.Payoff.Evaluate.{monthOf}
-use Rattle.language.specs.Rules.Table.{settingAt, settingsOk}
+use Rattle.language.specs.Payoff.Evaluate.{monthOf, settingsSum}
+use Rattle.language.specs.Rules.Table.{allOf, isSet, settingAt, settingsOk}
 use Rattle.language.specs.Text.Number.{byte}
 use Rattle.nodes.proofs.Passes.{Passing, passing-stop, row-kept, row-size, set-in-row}
 use Rattle.nodes.proofs.Signed.{index-cast, index-reads}
 use Rattle.nodes.specs.Pass.{allRows, rowFrom, withRow}
 use Rattle.nodes.specs.Rows.{monthFrom, settingsIn}
 use Rattle.nodes.specs.Table.{natOf}
-use Rattle.settling.proofs.SettingSums.{months-small}
+use Rattle.settling.proofs.SettingSums.{months-small, no-settings}
 use Rattle.settling.specs.Settle.{MonthIs, RowIs, isAwait, isIndex, isLeaf, monthIn, monthSettled, rowIn, rowSettled, settleMonth, settleRow}
 use Rattle.settling.specs.Sums.{SumIs}
 use Rattle.settling.specs.declared.sums.Summed.{Summed}
@@ -80,6 +80,16 @@ module _ (days nodes : List ℤ) (at : ℕ) where
       → MonthIs days at nodes (set (set nodes at v) (at + 1) (pos 0)) Filled
   unfolding monthSettled settleMonth
   month-filled n h v e = (h .0, ap (λ z. set (set nodes at z) (at + 1) (pos 0)) e)
+
+  -- a month without settings stays as it is
+  pub month-kept : digits ≡ pos 0 → MonthIs days at nodes nodes Filled
+  unfolding monthSettled settleMonth monthOf settingsSum
+  month-kept e =
+      let none : settingsIn (natOf digits) ≡ [] = ap (λ d. settingsIn (natOf d)) e ∙ no-settings 8 0 in
+      let same : monthOf (settingAt days) (monthFrom plain digits) ≡ plain = ap (λ ks. plain +ℤ pos (settingsSum (settingAt days) ks)) none ∙ +ℤ-idr plain in (
+        ap (allOf (isSet days)) none,
+        sym (ap₂ (λ v d. set (set nodes at v) (at + 1) d) same (sym e) ∙ ap (λ xs. set xs (at + 1) digits) (set-getD nodes at (pos 0)) ∙ set-getD nodes (at + 1) (pos 0)),
+      )
 
   pub month-unset : SumIs days (settingsIn (natOf digits)) summed.Unset → MonthIs days at nodes nodes Unset
   unfolding monthSettled

@@ -27,6 +27,12 @@ unfolding settingsSum
 sum-append σ [] ys = omega arith
 sum-append σ (x ∷ xs) ys = omega (arith, sum-append σ xs ys)
 
+-- digits of 0 are no settings
+pub no-settings : (n k : ℕ) → settingsFrom n k 0 ≡ []
+unfolding settingsFrom
+no-settings zero k = refl
+no-settings (suc n) k = no-settings n (suc k)
+
 -- ---- one setting, n times
 all-same : (p : ℕ → Bool) (n k : ℕ) → p k ≡ true → allOf p (replicate n k) ≡ true
 all-same p zero k e = refl
@@ -87,6 +93,13 @@ module _ (days : List ℤ) where
   pub summing-end : {digits rest k sum : ℕ} → Summing digits rest k sum → 8 ≤ k → SumIs days (settingsIn digits) (Months sum)
   unfolding settingsFrom settingsSum
   summing-end {digits} {rest} {k} {sum} s l = let n : 8 - k ≡ 0 = omega arith in (s .settled ∙ rw n refl, sym (s .total ∙ rw n (omega arith)))
+
+  -- no more digits, no more settings
+  pub summing-rest : {digits rest k sum : ℕ} → Summing digits rest k sum → rest ≡ 0 → SumIs days (settingsIn digits) (Months sum)
+  unfolding settingsSum
+  summing-rest {digits} {rest} {k} {sum} s e =
+      let n : settingsFrom (8 - k) k rest ≡ [] = ap (settingsFrom (8 - k) k) e ∙ no-settings (8 - k) k in
+      (s .settled ∙ rw n refl, sym (s .total ∙ rw n (omega arith)))
 
   -- ---- a month's settings are at most 31 of each
   sum-bound : settingsOk days ≡ true → (n k digits : ℕ) → settingsSum (settingAt days) (settingsFrom n k digits) ≤ 18_600 * n

@@ -13,13 +13,16 @@ use tables::fill::Filling;
 
 pub mod sums;
 
-// A month's number and, behind it, its digits: the sum, and no digits.
+// A month's number and, behind it, its digits: the sum, and no digits. Most months have no settings: nothing is written.
 pub fn settle_month(nodes: &mut [i64], at: usize, days: &[i64]) -> Filling
     requires { ⌜ (at + 2 ≤ length (now nodes)) × (settingsOk (now days) ≡ true) × (monthIn (getD (now nodes) at (pos 0)) (getD (now nodes) (at + 1) (pos 0)) ≡ true) ⌝ }
     ensures { λ r. ⌜ MonthIs (now (days .entry)) at (now (nodes .entry)) (now (nodes .exit)) r ⌝ }
 {
     let plain = nodes[at];
     let digits = nodes[at + 1];
+    if digits == 0 {
+        return Filling::Filled;
+    }
     let summed = sums::month_sum(days, digits as u64);
     match summed {
         Summed::Months(n) => {

@@ -26,7 +26,7 @@ pub fn term(days: &[i64], k: usize, n: u64) -> Summed
     Summed::Unset
 }
 
-// All eight digits, that of P0 the last.
+// All eight digits, that of P0 the last. Once the rest is 0, no more settings follow.
 pub fn month_sum(days: &[i64], digits: u64) -> Summed
     requires { ⌜ settingsOk (now days) ≡ true ⌝ }
     ensures { λ r. ⌜ SumIs (now (days .entry)) (settingsIn digits) r ⌝ }
@@ -35,6 +35,9 @@ pub fn month_sum(days: &[i64], digits: u64) -> Summed
     let mut k = 0;
     let mut sum = 0;
     while k < 8 {
+        if rest == 0 {
+            return Summed::Months(sum);
+        }
         match term(days, k, rest % 32) {
             Summed::Months(n) => {
                 sum += n;

@@ -9,6 +9,7 @@ use Rattle.settling.proofs.RowSettles as rows
 use Rattle.settling.specs.Sums.{SumIs}
 use Rattle.settling.specs.declared.sums.Summed.the-variants as summed
 use Rattle.nodes.specs.Rows.{settingsIn}
+use Rattle.nodes.proofs.Signed.{key}
 use Rattle.integers.proofs.Locals.{rd}
 use lib.IntN.{_+ℤ_, natAbs}
 use lib.ListN.{length-set}
@@ -31,9 +32,16 @@ mul-digits c = search needs
 slice-copy-out-digits : tie.Need-slice-copy-out-digits
 slice-copy-out-digits c = search needs
 
+returns : tie.Need-returns
+returns c =
+    let s = c .before .before .before in
+    let a = s .args in
+    let fd : SFits w64 (getD (a .nodes .now) (a .at + 1) (pos 0)) = search needs in
+    rows.month-kept (a .days .now) (a .nodes .now) (a .at) (key fd (c .if1 .taken))
+
 cast-month-sum : tie.Need-cast-month-sum
 cast-month-sum c =
-    let s = c .before .before in
+    let s = c .before .before .before in
     let a = s .args in
     let fp : SFits w64 (getD (a .nodes .now) (a .at) (pos 0)) = search needs in
     let fd : SFits w64 (getD (a .nodes .now) (a .at + 1) (pos 0)) = search needs in
@@ -47,7 +55,7 @@ enum-known-summed c = search needs
 
 cast-month : tie.Need-cast-month
 cast-month c =
-    let s = c .before .before .before .before .before .before in
+    let s = c .before .before .before .before .before .before .before in
     let a = s .args in
     let fp : SFits w64 (getD (a .nodes .now) (a .at) (pos 0)) = search needs in
     let fd : SFits w64 (getD (a .nodes .now) (a .at + 1) (pos 0)) = search needs in
@@ -56,7 +64,7 @@ cast-month c =
 
 add-month : tie.Need-add-month
 add-month c =
-    let s = c .before .before .before .before .before .before in
+    let s = c .before .before .before .before .before .before .before in
     let a = s .args in
     let fp : SFits w64 (getD (a .nodes .now) (a .at) (pos 0)) = search needs in
     let fd : SFits w64 (getD (a .nodes .now) (a .at + 1) (pos 0)) = search needs in
@@ -77,7 +85,7 @@ mul-nodes c = search needs
 
 slice-set-of-nodes : tie.Need-slice-set-of-nodes
 slice-set-of-nodes c =
-    let s = c .before .before .before .before .before .before in
+    let s = c .before .before .before .before .before .before .before in
     let a = s .args in
     omega (arith, s .pre .0, length-set (a .nodes .now) (a .at) (rd (rd (getD (a .nodes .now) (a .at) (pos 0)) +ℤ toZ w64 (c .before .summed .given .0 .0))))
 
@@ -87,18 +95,18 @@ enum-told c = search needs
 same-length : tie.Need-same-length
 same-length c = search needs
 
-returns : tie.Need-returns
-returns c =
-    let s = c .before .before .before .before .before .before in
+returns-2 : tie.Need-returns-2
+returns-2 c =
+    let s = c .before .before .before .before .before .before .before in
     let a = s .args in
     let fp : SFits w64 (getD (a .nodes .now) (a .at) (pos 0)) = search needs in
     let fd : SFits w64 (getD (a .nodes .now) (a .at + 1) (pos 0)) = search needs in
     let h = subst (SumIs (a .days .now) (settingsIn (natAbs (rd (getD (a .nodes .now) (a .at + 1) (pos 0)))))) (c .before .summed .given .1) (c .before .before .before .month-sum .ensures) in
     rows.month-filled (a .days .now) (a .nodes .now) (a .at) (c .before .summed .given .0 .0) (rows.as-digits (a .days .now) (s .pre .1) _ _ (s .pre .2) fp fd (summed.Months (c .before .summed .given .0 .0)) h) _ (rows.month-is (a .days .now) (s .pre .1) _ _ (s .pre .2) fp fd _ h)
 
-returns-2 : tie.Need-returns-2
-returns-2 c =
-    let s = c .before .before .before .before .before in
+returns-3 : tie.Need-returns-3
+returns-3 c =
+    let s = c .before .before .before .before .before .before in
     let a = s .args in
     let fp : SFits w64 (getD (a .nodes .now) (a .at) (pos 0)) = search needs in
     let fd : SFits w64 (getD (a .nodes .now) (a .at + 1) (pos 0)) = search needs in
@@ -114,6 +122,7 @@ settle-month-spec =
     add-digits
     mul-digits
     slice-copy-out-digits
+    returns
     cast-month-sum
     month-sum-requires
     enum-known-summed
@@ -126,5 +135,5 @@ settle-month-spec =
     slice-set-of-nodes
     enum-told
     same-length
-    returns
-    returns-2)
+    returns-2
+    returns-3)

@@ -17,17 +17,20 @@ abbrev μ-loop : tie.MeasureT-loop
 loop-holds : tie.Need-loop-holds Inv-loop μ-loop
 loop-holds c = sums.summing-start (c .args .days .now) (c .args .digits)
 
+returns : tie.Need-returns Inv-loop μ-loop
+returns c = sums.summing-rest (c .before .before .before .args .days .now) (c .before .before .loop .inv) (c .if1 .taken)
+
 term-requires : tie.Need-term-requires Inv-loop μ-loop
-term-requires c κs = (omega arith, c .before .before .pre)
+term-requires c κs = (omega arith, c .before .before .before .pre)
 
 enum-known-n : tie.Need-enum-known-n Inv-loop μ-loop
 enum-known-n c = search needs
 
 add-sum : tie.Need-add-sum Inv-loop μ-loop
 add-sum c =
-    let s = c .before .before .before .before .before .before in
-    let i = c .before .before .before .before .before .loop .inv in
-    let h = subst (SumIs (s .args .days .now) (replicate (c .before .before .before .before .before .loop .rest % 32) (c .before .before .before .before .before .loop .k))) (c .before .n .given .1) (c .before .before .before .term .ensures) in
+    let s = c .before .before .before .before .before .before .before in
+    let i = c .before .before .before .before .before .before .loop .inv in
+    let h = subst (SumIs (s .args .days .now) (replicate (c .before .before .before .before .before .before .loop .rest % 32) (c .before .before .before .before .before .before .loop .k))) (c .before .n .given .1) (c .before .before .before .term .ensures) in
     record { fits = omega (arith, i .small, sums.next-small (s .args .days .now) i (omega arith) (s .pre) _ h) }
 
 add-k : tie.Need-add-k Inv-loop μ-loop
@@ -38,22 +41,22 @@ loop-less c = omega arith
 
 loop-again : tie.Need-loop-again Inv-loop μ-loop
 loop-again c =
-    let s = c .before .before .before .before .before .before in
-    let i = c .before .before .before .before .before .loop .inv in
-    let h = subst (SumIs (s .args .days .now) (replicate (c .before .before .before .before .before .loop .rest % 32) (c .before .before .before .before .before .loop .k))) (c .before .n .given .1) (c .before .before .before .term .ensures) in
+    let s = c .before .before .before .before .before .before .before in
+    let i = c .before .before .before .before .before .before .loop .inv in
+    let h = subst (SumIs (s .args .days .now) (replicate (c .before .before .before .before .before .before .loop .rest % 32) (c .before .before .before .before .before .before .loop .k))) (c .before .n .given .1) (c .before .before .before .term .ensures) in
     sums.summing-next (s .args .days .now) i (omega arith) (s .pre) _ h
 
 enum-told : tie.Need-enum-told Inv-loop μ-loop
 enum-told c = search needs
 
-returns : tie.Need-returns Inv-loop μ-loop
-returns c =
-    let s = c .before .before .before .before .before in
-    let h = subst (SumIs (s .args .days .now) (replicate (c .before .before .before .before .loop .rest % 32) (c .before .before .before .before .loop .k))) (c .enum-told .given .1) (c .before .before .term .ensures) in
-    sums.summing-stop (s .args .days .now) (c .before .before .before .before .loop .inv) (omega arith) h
-
 returns-2 : tie.Need-returns-2 Inv-loop μ-loop
-returns-2 c = sums.summing-end (c .before .before .args .days .now) (c .before .loop .inv) (omega arith)
+returns-2 c =
+    let s = c .before .before .before .before .before .before in
+    let h = subst (SumIs (s .args .days .now) (replicate (c .before .before .before .before .before .loop .rest % 32) (c .before .before .before .before .before .loop .k))) (c .enum-told .given .1) (c .before .before .term .ensures) in
+    sums.summing-stop (s .args .days .now) (c .before .before .before .before .before .loop .inv) (omega arith) h
+
+returns-3 : tie.Need-returns-3 Inv-loop μ-loop
+returns-3 c = sums.summing-end (c .before .before .args .days .now) (c .before .loop .inv) (omega arith)
 
 pub month-sum-spec : {M : Type 1} → statement M
 month-sum-spec =
@@ -62,6 +65,7 @@ month-sum-spec =
     Inv-loop
     μ-loop
     loop-holds
+    returns
     term-requires
     enum-known-n
     add-sum
@@ -69,5 +73,5 @@ month-sum-spec =
     loop-less
     loop-again
     enum-told
-    returns
-    returns-2)
+    returns-2
+    returns-3)
