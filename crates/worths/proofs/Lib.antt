@@ -2,6 +2,7 @@
 pub mod Bounds
 pub mod CheckedArms
 pub mod CheckedNodes
+pub mod Codes
 pub mod Combined
 pub mod FourLaws
 pub mod FourWaits

@@ -27,9 +27,9 @@ use Rattle.nodes.specs.Table.{natOf}
 use Rattle.tables.specs.Lookup.{foundAnswer, lookedUp, readTable}
 use Rattle.tables.specs.declared.lookup.Found.{Found}
 use Rattle.tables.specs.declared.lookup.Found.the-variants as found
-use Rattle.text.specs.declared.Refusal.the-variants as refusal
 use Rattle.worths.specs.Answers.{dividedBy, valuedAnswer}
 use Rattle.worths.specs.Ranges.{Near, Readable, Waited}
+use Rattle.worths.specs.declared.answers.Fault.the-variants as fault
 use Rattle.worths.specs.declared.answers.Valued.the-variants as valued
 
 -- ---- a label: x is a local that reads the field y
@@ -85,6 +85,6 @@ module _ (h f : ℤ) (bounds values : List ℤ) (R : Readable h f bounds values)
     unfolding foundAnswer
     read-found p e = sym (ap foundAnswer e) ∙ whole
 
-    pub read-outside : r ≡ found.Outside → valuedAnswer (valued.Refused refusal.Reads) ≡ cond (readable t l month) (inRange maxAmount (valueAt t l month)) (refused 11)
+    pub read-outside : r ≡ found.Outside → valuedAnswer (valued.Refused fault.Unread) ≡ cond (readable t l month) (inRange maxAmount (valueAt t l month)) (refused 11)
     unfolding foundAnswer
     read-outside e = sym (ap foundAnswer e) ∙ whole

@@ -89,8 +89,8 @@ module _ (t : ℕ → Answer Bool) (first d last : ℤ) (h : WaitsIn first d) (e
     pub held : t (natOf month) ≡ got true → Answers (Held (record { 0 = month }))
     held eh = (sym (all ∙ tried-now t (natOf month) (natOf last - natOf month) eh), w .known)
 
-    pub stopped : (k : Refusal) → t (natOf month) ≡ refused (numberOf k) → Answers (Refused k)
-    stopped k er = (sym (all ∙ tried-refused t (natOf month) (natOf last - natOf month) er), tt)
+    pub stopped : (k : Refusal) {n : ℕ} → numberOf k ≡ n → t (natOf month) ≡ refused n → Answers (Refused k)
+    stopped k en er = (ap refused en ∙ sym (all ∙ tried-refused t (natOf month) (natOf last - natOf month) er), tt)
 
     -- the test fails, and `next` is the month to try after it
     module _ (em : t (natOf month) ≡ got false) (next : ℤ) (en : next ≡ month +ℤ pos 1) (fl : SFits w64 last) (fn : SFits w64 next) where

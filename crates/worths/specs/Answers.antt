@@ -12,6 +12,8 @@ use Rattle.language.specs.Answer.{Answer, _>>=_, got, refused}
 use Rattle.language.specs.Limits.{maxAmount}
 use Rattle.language.specs.Payoff.Evaluate.{inRange}
 use Rattle.text.specs.Refusals.{numberOf}
+use Rattle.worths.specs.declared.answers.Fault.{Fault}
+use Rattle.worths.specs.declared.answers.Fault.the-variants as fault
 use Rattle.worths.specs.declared.answers.Tested.{Tested}
 use Rattle.worths.specs.declared.answers.Tested.the-variants as tested
 use Rattle.worths.specs.declared.answers.Valued.{Valued}
@@ -19,10 +21,15 @@ use Rattle.worths.specs.declared.answers.Valued.the-variants as valued
 use Rattle.worths.specs.declared.answers.Worth.{Worth}
 use Rattle.worths.specs.declared.answers.Worth.the-variants as worth
 
+-- a value that can't be read is 11, an amount beyond the limit 14
+abbrev pub faultNumber : Fault → ℕ
+faultNumber fault.Unread = 11
+faultNumber fault.Beyond = 14
+
 -- an amount in pence
 abbrev pub valuedAnswer : Valued → Answer ℤ
 valuedAnswer (valued.Value p) = got (p .0)
-valuedAnswer (valued.Refused k) = refused (numberOf k)
+valuedAnswer (valued.Refused k) = refused (faultNumber k)
 
 -- an amount divided by n
 abbrev pub dividedBy : ℕ → Answer ℤ → Answer ℤ
@@ -32,7 +39,7 @@ dividedBy n a = a >>= λ x. inRange maxAmount (floorZ x n)
 abbrev pub testedAnswer : Tested → Answer Bool
 testedAnswer tested.Holds = got true
 testedAnswer tested.Fails = got false
-testedAnswer (tested.Refused k) = refused (numberOf k)
+testedAnswer (tested.Refused k) = refused (faultNumber k)
 
 -- the opposite of a test
 abbrev pub notAnswer : Answer Bool → Answer Bool

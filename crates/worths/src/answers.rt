@@ -7,27 +7,43 @@ ghost use Rattle.integers.specs.Equal.{eqZ};
 ghost use Rattle.language.specs.Answer.{got, onBoth};
 ghost use Rattle.language.specs.Limits.{maxAmount, maxValue};
 ghost use Rattle.language.specs.Payoff.Evaluate.{inRange};
-ghost use Rattle.worths.specs.Answers.{SmallValued, SmallWorth, amountAnswer, notAnswer, testedAnswer, valueAnswer, valuedAnswer, worthAnswer};
+ghost use Rattle.text.specs.Refusals.{numberOf};
+ghost use Rattle.worths.specs.Answers.{SmallValued, SmallWorth, amountAnswer, faultNumber, notAnswer, testedAnswer, valueAnswer, valuedAnswer, worthAnswer};
 use integers::Bounded;
 use integers::BoundedValue;
 use integers::Millionths;
 use integers::Pence;
 use text::Refusal;
 
+// What an amount or a test can be refused for: 11 or 14.
+pub enum Fault {
+    Unread,
+    Beyond,
+}
+
 pub enum Valued {
     Value(Pence),
-    Refused(Refusal),
+    Refused(Fault),
 }
 
 pub enum Tested {
     Holds,
     Fails,
-    Refused(Refusal),
+    Refused(Fault),
 }
 
 pub enum Worth {
     Value(Millionths),
     Refused(Refusal),
+}
+
+pub fn refusal(k: Fault) -> Refusal
+    ensures { λ r. ⌜ numberOf r ≡ faultNumber k ⌝ }
+{
+    match k {
+        Fault::Unread => Refusal::Reads,
+        Fault::Beyond => Refusal::OutOfRange,
+    }
 }
 
 // An amount beyond the limit is 14.
@@ -36,7 +52,7 @@ pub fn amount_of(b: Bounded) -> Valued
 {
     match b {
         Bounded::Within(p) => Valued::Value(p),
-        Bounded::OutOfRange => Valued::Refused(Refusal::OutOfRange),
+        Bounded::OutOfRange => Valued::Refused(Fault::Beyond),
     }
 }
 
@@ -176,7 +192,7 @@ pub fn scaled(a: Valued, x: Worth) -> Worth
             Worth::Value(v) => value_of(integers::value_scaled(p, v)),
             Worth::Refused(k) => Worth::Refused(k),
         },
-        Valued::Refused(k) => Worth::Refused(k),
+        Valued::Refused(k) => Worth::Refused(refusal(k)),
     }
 }
 

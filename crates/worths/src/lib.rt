@@ -6,6 +6,7 @@ ghost use Rattle.nodes.specs.Stands.{AmountStands, TestStands};
 ghost use Rattle.nodes.specs.Table.{natOf};
 ghost use Rattle.worths.specs.Answers.{testedAnswer, valuedAnswer};
 ghost use Rattle.worths.specs.Checked.{testIn, valueIn};
+ghost use Rattle.worths.specs.Coded.{valuedIn};
 ghost use Rattle.worths.specs.Ranges.{Near, Readable, Waited};
 use answers::Tested;
 use answers::Valued;
@@ -16,6 +17,7 @@ use nodes::TestLetter;
 use tables::Span;
 
 pub mod answers;
+pub mod coded;
 pub mod four;
 pub mod fours;
 pub mod leaf;
@@ -23,7 +25,7 @@ pub mod payoffs;
 pub mod rows;
 pub mod wait;
 
-// The amount at a node, with some months waited: a number without a call.
+// The amount at a node, with some months waited: a number or an index without a call.
 pub fn checked_operand(
     nodes: &[i64; 2560],
     values: &[i64],
@@ -39,12 +41,29 @@ pub fn checked_operand(
     let x = nodes::slot(nodes, at, 0);
     match x {
         78 => rows::number(nodes, at),
-        _ => checked_value(nodes, values, bounds, span, waited, at, left),
+        79 => rows::reading(nodes, values, bounds, span, waited, at),
+        _ => coded::valued(checked_value(nodes, values, bounds, span, waited, at, left)),
     }
 }
 
-// The amount at a node of any letter; of an `I` only the chosen branch.
+// The amount at a node of any letter, as one number: what the calls of the walk hand back.
 pub fn checked_value(
+    nodes: &[i64; 2560],
+    values: &[i64],
+    bounds: &[i64],
+    span: Span,
+    waited: Month,
+    at: usize,
+    left: usize,
+) -> i64
+    requires { ⌜ Readable (span .h) (span .f) (now bounds) (now values) × Waited (waited .0) × AmountStands left (now nodes) at × fieldsOfAmount Near (amountAt offsetOf left (now nodes) at) ⌝ }
+    ensures { λ r. ⌜ valuedIn r ≡ valueIn (span .h) (span .f) (now (bounds .entry)) (now (values .entry)) (amountAt offsetOf left (now (nodes .entry)) at) (natOf (waited .0)) ⌝ }
+{
+    coded::code(amount_here(nodes, values, bounds, span, waited, at, left))
+}
+
+// The same; of an `I` only the chosen branch.
+fn amount_here(
     nodes: &[i64; 2560],
     values: &[i64],
     bounds: &[i64],

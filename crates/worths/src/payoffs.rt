@@ -12,6 +12,7 @@ ghost use Rattle.worths.specs.Checked.{worthIn};
 ghost use Rattle.worths.specs.Ranges.{FieldsIn, Payable, Readable, WaitedAt};
 use crate::answers;
 use crate::answers::Worth;
+use crate::coded;
 use crate::leaf;
 use crate::rows;
 use crate::wait;
@@ -46,7 +47,15 @@ pub fn payoff_worth(
         PayoffLetter::Uncut => leaf::leaf_worth(nodes, factors, span, waited, Month(0), pair, at),
         PayoffLetter::Cut => leaf::leaf_worth(nodes, factors, span, waited, start, pair, at),
         PayoffLetter::Times => {
-            let a = crate::checked_value(nodes, values, bounds, span, waited, at + 1, 512);
+            let a = coded::valued(crate::checked_value(
+                nodes,
+                values,
+                bounds,
+                span,
+                waited,
+                at + 1,
+                512,
+            ));
             let x = payoff_worth(
                 nodes,
                 factors,

@@ -14,13 +14,13 @@ ghost use Rattle.tables.specs.Lookup.{readTable};
 ghost use Rattle.worths.specs.Answers.{SmallValued, dividedBy, valuedAnswer};
 ghost use Rattle.worths.specs.Ranges.{Near, Readable, Waited};
 use crate::answers;
+use answers::Fault;
 use answers::Valued;
 use integers::Month;
 use nodes::PayoffLetter;
 use tables::Span;
 use tables::lookup;
 use tables::lookup::Found;
-use text::Refusal;
 
 pub fn letter(nodes: &[i64; 2560], at: usize) -> PayoffLetter
     requires { ⌜ at < 512 ⌝ }
@@ -76,7 +76,7 @@ pub fn reading(
     let found = lookup::labelled(values, bounds, span, label(nodes, at), month);
     match found {
         Found::Value(p) => Valued::Value(p),
-        Found::Outside => Valued::Refused(Refusal::Reads),
+        Found::Outside => Valued::Refused(Fault::Unread),
     }
 }
 

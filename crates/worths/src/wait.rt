@@ -8,6 +8,7 @@ ghost use Rattle.nodes.specs.Table.{natOf};
 ghost use Rattle.worths.specs.Checked.{testIn};
 ghost use Rattle.worths.specs.Ranges.{Near, Readable};
 ghost use Rattle.worths.specs.Waits.{WaitKnown, WaitsIn, waitAnswer};
+use crate::answers;
 use crate::answers::Tested;
 use crate::fours;
 use integers::Month;
@@ -51,7 +52,7 @@ fn wait_singly(
                 month = following;
             }
             Tested::Refused(k) => {
-                break Wait::Refused(k);
+                break Wait::Refused(answers::refusal(k));
             }
         }
     }

@@ -1,6 +1,7 @@
 use mathlib.Core.Path.{_∙_, ap, subst, sym}
 use Rattle.worths.proofs.Combined.{both-got, first-refused, second-refused, value-within}
 use Rattle.worths.specs.Answers.{SmallValued, SmallWorth, valueAnswer, valuedAnswer, worthAnswer}
+use Rattle.language.specs.Answer.{refused}
 use Rattle.language.specs.Limits.{maxValue}
 use Rattle.language.specs.Payoff.Evaluate.{inRange}
 use lib.IntN.{_*ℤ_}
@@ -26,6 +27,9 @@ enum-known-x-2 c = search needs
 enum-known-a-2 : tie.Need-enum-known-a-2
 enum-known-a-2 c = search needs
 
+refusal-requires : tie.Need-refusal-requires
+refusal-requires c κs = search needs
+
 returns : tie.Need-returns
 returns c = c .value-of .ensures ∙ ap valueAnswer (c .before .value-scaled .ensures) ∙ value-within _ ∙ sym (both-got (λ y z. inRange maxValue (y *ℤ z)) (ap valuedAnswer (c .before .before .before .before .before .before .a .given .1)) (ap worthAnswer (c .before .before .before .x .given .1)))
 
@@ -33,7 +37,7 @@ returns-2 : tie.Need-returns-2
 returns-2 c = sym (second-refused (λ y z. inRange maxValue (y *ℤ z)) (ap valuedAnswer (c .before .before .before .before .a .given .1)) (ap worthAnswer (c .before .x2 .given .1)))
 
 returns-3 : tie.Need-returns-3
-returns-3 c = sym (first-refused (λ y z. inRange maxValue (y *ℤ z)) (worthAnswer (c .before .before .before .args .x)) (ap valuedAnswer (c .before .a2 .given .1)))
+returns-3 c = ap refused (c .refusal .ensures) ∙ sym (first-refused (λ y z. inRange maxValue (y *ℤ z)) (worthAnswer (c .before .before .before .before .args .x)) (ap valuedAnswer (c .before .before .a2 .given .1)))
 
 pub scaled-spec : {M : Type 1} → statement M
 scaled-spec =
@@ -45,6 +49,7 @@ scaled-spec =
     value-of-requires
     enum-known-x-2
     enum-known-a-2
+    refusal-requires
     returns
     returns-2
     returns-3)

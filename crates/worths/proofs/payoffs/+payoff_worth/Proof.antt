@@ -1,5 +1,8 @@
 use borrow.Author.Needs.{needs}
 use mathlib.Core.Path.{_∙_, _≡_, ap, subst, sym}
+use mir.Facts.{toZ-ofZ}
+use mir.Syntax.{w64}
+use mir.Val.{SFits}
 use native.Mathlib.Omega.{arith}
 use Rattle.amounts.proofs.RowReads.{month-is}
 use Rattle.nodes.specs.Table.{natOf}
@@ -7,6 +10,7 @@ use Rattle.nodes.specs.declared.PayoffLetter.{PayoffLetter}
 use Rattle.language.specs.Payments.Pays.{hit, miss}
 use Rattle.worths.proofs.Bounds.{valued-small}
 use Rattle.worths.proofs.WorthNodes.{PayoffNode, payoff-inside, payoff-node}
+use Rattle.worths.specs.Coded.{valuedIn}
 use Rattle.worths.specs.Ranges.{FieldsIn}
 use Rattle.worths.specs.Waits.{WaitKnown, waitAnswer}
 use Prim.Native.Nat.{_<_, ℕ}
@@ -25,6 +29,7 @@ use Rattle.pays.proofs.rows.delay.Reads as delay-reads
 use Rattle.worths.proofs.answers.added.Reads as added-reads
 use Rattle.worths.proofs.answers.scaled.Reads as scaled-reads
 use Rattle.worths.proofs.checked_value.Reads as checked-value-reads
+use Rattle.worths.proofs.coded.valued.Reads as valued-reads
 use Rattle.worths.proofs.leaf.leaf_worth.Reads as leaf-worth-reads
 use Rattle.worths.proofs.rows.letter.Reads as letter-reads
 use Rattle.worths.proofs.wait.wait_for.Reads as wait-for-reads
@@ -43,7 +48,7 @@ payoff-worth-below t = and
     payoff-worth.Pre
 
 abbrev payoff-worth-calls : ℕ → payoff-worth-lts.Claims
-payoff-worth-calls t = (letter-reads.Asked, letter-reads.Learnt, leaf-worth-reads.Asked, leaf-worth-reads.Learnt, checked-value-reads.Asked, checked-value-reads.Learnt, link-reads.Asked, link-reads.Learnt, payoff-worth-below t, payoff-worth.Post, scaled-reads.Asked, scaled-reads.Learnt, added-reads.Asked, added-reads.Learnt, delay-reads.Asked, delay-reads.Learnt, wait-for-reads.Asked, wait-for-reads.Learnt)
+payoff-worth-calls t = (letter-reads.Asked, letter-reads.Learnt, leaf-worth-reads.Asked, leaf-worth-reads.Learnt, checked-value-reads.Asked, checked-value-reads.Learnt, valued-reads.Asked, valued-reads.Learnt, link-reads.Asked, link-reads.Learnt, payoff-worth-below t, payoff-worth.Post, scaled-reads.Asked, scaled-reads.Learnt, added-reads.Asked, added-reads.Learnt, delay-reads.Asked, delay-reads.Learnt, wait-for-reads.Asked, wait-for-reads.Learnt)
 
 -- what is known in the arm of letter l
 payoff-worth-here : (t : ℕ) (c : payoff-worth-lts.After-letter (payoff-worth-calls t) (payoff-worth-at t) payoff-worth.Post) (l : PayoffLetter) → c .letter .result ≡ l
@@ -84,28 +89,29 @@ payoff-worth-checked-value-requires t c κs =
 
 payoff-worth-link-requires : (t : ℕ) → payoff-worth-lts.Need-link-requires (payoff-worth-calls t) (payoff-worth-at t) payoff-worth.Post
 payoff-worth-link-requires t c κs =
-    let n = payoff-worth-here t (c .before .before .before) letter.Times (c .before .enum-told4 .given .1) in
+    let n = payoff-worth-here t (c .before .before .before .before) letter.Times (c .before .before .enum-told4 .given .1) in
     (n .inside, omega arith, n .stands .1 .0)
 
 payoff-worth-sub-payoff-worth : (t : ℕ) → payoff-worth-lts.Need-sub-payoff-worth (payoff-worth-calls t) (payoff-worth-at t) payoff-worth.Post
 payoff-worth-sub-payoff-worth t c =
-    let n = payoff-worth-here t (c .before .before .before .before) letter.Times (c .before .before .enum-told4 .given .1) in
+    let n = payoff-worth-here t (c .before .before .before .before .before) letter.Times (c .before .before .before .enum-told4 .given .1) in
     omega (arith, n .some)
 
 payoff-worth-payoff-worth-requires : (t : ℕ) → payoff-worth-lts.Need-payoff-worth-requires (payoff-worth-calls t) (payoff-worth-at t) payoff-worth.Post
 unfolding FieldsIn
 payoff-worth-payoff-worth-requires t c κs =
-    let s = c .before .before .before .before .before in
+    let s = c .before .before .before .before .before .before in
     let h = s .pre .1 in
-    let n = payoff-worth-here t (c .before .before .before .before) letter.Times (c .before .before .enum-told4 .given .1) in
+    let n = payoff-worth-here t (c .before .before .before .before .before) letter.Times (c .before .before .before .enum-told4 .given .1) in
     (omega (arith, n .some), rw (c .link .ensures) (h .0, h .1, parts.same-waited (n .some) (h .2), h .3, h .4, n .stands .1 .1, n .range .1))
 
 payoff-worth-scaled-requires : (t : ℕ) → payoff-worth-lts.Need-scaled-requires (payoff-worth-calls t) (payoff-worth-at t) payoff-worth.Post
 payoff-worth-scaled-requires t c κs =
-    let s = c .before .before .before .before .before .before in
+    let s = c .before .before .before .before .before .before .before in
     let a = s .args in
-    let n = payoff-worth-here t (c .before .before .before .before .before) letter.Times (c .before .before .before .enum-told4 .given .1) in (
-      valued-small (a .span .h) (a .span .f) (a .bounds .now) (a .values .now) _ _ (c .before .before .checked-value .result) (c .before .before .checked-value .ensures),
+    let f : SFits w64 (c .before .before .before .checked-value .result) = search needs in
+    let n = payoff-worth-here t (c .before .before .before .before .before .before) letter.Times (c .before .before .before .before .enum-told4 .given .1) in (
+      valued-small (a .span .h) (a .span .f) (a .bounds .now) (a .values .now) _ _ (c .before .before .valued .result) (c .before .before .valued .ensures ∙ ap valuedIn (toZ-ofZ f) ∙ c .before .before .before .checked-value .ensures),
       arms.part-small (a .span .h) (a .span .f) (a .factors .now) (a .bounds .now) (a .values .now) (a .pair .p) (a .pair .q) _ _ _ (c .payoff-worth .result) (c .payoff-worth .ensures),
     )
 
@@ -238,10 +244,11 @@ payoff-worth-returns-3 t c =
 
 payoff-worth-returns-4 : (t : ℕ) → payoff-worth-lts.Need-returns-4 (payoff-worth-calls t) (payoff-worth-at t) payoff-worth.Post
 payoff-worth-returns-4 t c =
-    let s = c .before .before .before .before .before .before .before in
+    let s = c .before .before .before .before .before .before .before .before in
     let a = s .args in
-    let n = payoff-worth-here t (c .before .before .before .before .before .before) letter.Times (c .before .before .before .before .enum-told4 .given .1) in
-    arms.times-arm (a .span .h) (a .span .f) (a .factors .now) (a .bounds .now) (a .values .now) (a .pair .p) (a .pair .q) _ _ _ _ _ n (c .before .before .link .ensures) (c .before .before .before .checked-value .ensures) (c .before .payoff-worth .ensures) (c .scaled .ensures)
+    let f : SFits w64 (c .before .before .before .before .checked-value .result) = search needs in
+    let n = payoff-worth-here t (c .before .before .before .before .before .before .before) letter.Times (c .before .before .before .before .before .enum-told4 .given .1) in
+    arms.times-arm (a .span .h) (a .span .f) (a .factors .now) (a .bounds .now) (a .values .now) (a .pair .p) (a .pair .q) _ _ _ _ _ n (c .before .before .link .ensures) (c .before .before .before .valued .ensures ∙ ap valuedIn (toZ-ofZ f) ∙ c .before .before .before .before .checked-value .ensures) (c .before .payoff-worth .ensures) (c .scaled .ensures)
 
 payoff-worth-returns-5 : (t : ℕ) → payoff-worth-lts.Need-returns-5 (payoff-worth-calls t) (payoff-worth-at t) payoff-worth.Post
 payoff-worth-returns-5 t c =
@@ -293,6 +300,7 @@ payoff-worth-part t =
     (λ c. search needs)
     (payoff-worth-add-checked-value t)
     (payoff-worth-checked-value-requires t)
+    (λ c κs. search needs)
     (payoff-worth-link-requires t)
     (payoff-worth-sub-payoff-worth t)
     (payoff-worth-payoff-worth-requires t)

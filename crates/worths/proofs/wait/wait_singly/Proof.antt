@@ -63,6 +63,9 @@ loop-again c =
 enum-known-t : tie.Need-enum-known-t Inv-loop μ-loop
 enum-known-t c = search needs
 
+refusal-requires : tie.Need-refusal-requires Inv-loop μ-loop
+refusal-requires c κs = search needs
+
 returns : tie.Need-returns Inv-loop μ-loop
 returns c =
     let p = c .before .before .before .before .before .pre in
@@ -78,8 +81,8 @@ returns-2 c =
 
 returns-3 : tie.Need-returns-3 Inv-loop μ-loop
 returns-3 c =
-    let p = c .before .before .before .before .before .before .pre in
-    waiting.stopped _ _ _ _ (p .1) (c .before .before .before .before .before .later .ensures) _ (c .before .before .before .before .loop .inv) (c .before .t .given .0 .0) (sym (c .before .before .before .checked-holds .ensures) ∙ ap testedAnswer (c .before .t .given .1))
+    let p = c .before .before .before .before .before .before .before .pre in
+    waiting.stopped _ _ _ _ (p .1) (c .before .before .before .before .before .before .later .ensures) _ (c .before .before .before .before .before .loop .inv) (c .refusal .result) (c .refusal .ensures) (sym (c .before .before .before .before .checked-holds .ensures) ∙ ap testedAnswer (c .before .before .t .given .1))
 
 pub wait-singly-spec : {M : Type 1} → statement M
 wait-singly-spec =
@@ -96,6 +99,7 @@ wait-singly-spec =
     loop-less
     loop-again
     enum-known-t
+    refusal-requires
     returns
     returns-2
     returns-3)

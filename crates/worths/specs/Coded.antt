@@ -1,0 +1,15 @@
+-- An amount or its refusal as one number.
+use Prim.Native.Nat.{_+_, ℕ}
+use lib.Dec.{eqb, leb}
+use lib.IntN.{natAbs, ℤ}
+use mathlib.Core.Bool.{cond}
+use Rattle.language.specs.Answer.{Answer, got, refused}
+use Rattle.language.specs.Limits.{maxAmount}
+
+-- what stands for a value that can't be read
+abbrev pub unread : ℕ
+unread = maxAmount + 11
+
+-- a number within the limit stands for itself, one beyond it for 11 or 14
+unfoldable pub valuedIn : ℤ → Answer ℤ
+valuedIn z = cond (leb (natAbs z) maxAmount) (got z) (cond (eqb (natAbs z) unread) (refused 11) (refused 14))
