@@ -1,15 +1,19 @@
 -- Four months in a row: what is made of answers without a refusal.
 use Prim.Native.Nat.{_+_, _<_, ℕ}
-use lib.IntN.{_+ℤ_, pos, ℤ}
+use lib.IntN.{_+ℤ_, negsuc, pos, ℤ}
 use lib.ListN.{length}
-use mathlib.Core.Bool.{false, true}
+use lib.Signed.{leZ}
+use mathlib.Core.Bool.{_&&_, false, true}
 use mathlib.Core.List.{List}
 use mathlib.Core.Path.{_∙_, _≡_, ap, ap₂, refl, subst, sym}
 use native.Mathlib.Omega.{arith}
 use Rattle.amounts.proofs.RowReads.{month-is}
+use Rattle.integers.proofs.Laws.{natAbs-le}
 use Rattle.integers.proofs.Solver.{_⊕_, lit, ring, var}
-use Rattle.integers.specs.Bounded.{amountWithin}
+use Rattle.integers.proofs.Tests.{le-true}
+use Rattle.integers.specs.Bounded.{Small, amountWithin}
 use Rattle.integers.specs.declared.Bounded.{Bounded}
+use Rattle.language.proofs.Truth.{and-e}
 use Rattle.language.specs.Answer.{Answer, got, onBoth}
 use Rattle.language.specs.Limits.{maxAmount}
 use Rattle.language.specs.Payoff.Evaluate.{inRange}
@@ -31,6 +35,16 @@ use Rattle.worths.specs.declared.four.FourValues.{FourValues}
 -- two amounts put together, within the limit
 pub joined : (f : ℤ → ℤ → ℤ) {g v : Answer ℤ} {b : Bounded} (x y : ℤ) → g ≡ v → v ≡ amountAnswer b → b ≡ amountWithin (f x y) → g ≡ onBoth (λ a b. inRange maxAmount (f a b)) (got x) (got y)
 joined f x y eg ev eb = eg ∙ ev ∙ ap amountAnswer eb ∙ amount-within (f x y) ∙ sym (both-got (λ a b. inRange maxAmount (f a b)) refl refl)
+
+-- the same, tested after it was made
+pub joined-sure : (f : ℤ → ℤ → ℤ) {g : Answer ℤ} {z : ℤ} (x y : ℤ) → g ≡ inRange maxAmount z → z ≡ f x y → g ≡ onBoth (λ a b. inRange maxAmount (f a b)) (got x) (got y)
+joined-sure f x y eg ez = eg ∙ ap (inRange maxAmount) ez ∙ sym (both-got (λ a b. inRange maxAmount (f a b)) refl refl)
+
+-- a number between the two limits
+pub between-small : (z : ℤ) → leZ (negsuc 8_999_999_999_999) z && leZ z (pos 9_000_000_000_000) ≡ true → Small z
+between-small z e =
+    let b = and-e (leZ (negsuc 8_999_999_999_999) z) (leZ z (pos 9_000_000_000_000)) e in
+    record { small = natAbs-le z maxAmount (omega (arith, le-true z (pos 9_000_000_000_000) (b .1))) (omega (arith, le-true (negsuc 8_999_999_999_999) z (b .0))) }
 
 -- a test made of two
 pub tested : {A B : Type 0} (f : A → A → B) {r : B} (x y : A) → r ≡ f x y → got r ≡ onBoth (λ a b. got (f a b)) (got x) (got y)

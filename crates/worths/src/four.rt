@@ -6,7 +6,8 @@ ghost use lib.IntN.{_*ℤ_, _+ℤ_, _-ℤ_, natAbs, pos};
 ghost use lib.ListN.{length};
 ghost use lib.Signed.{ltZ};
 ghost use Rattle.amounts.specs.Fine.{Divides};
-ghost use Rattle.amounts.specs.FourMonths.{heldIn};
+ghost use Rattle.amounts.specs.FourMonths.{heldIn, penceIn};
+ghost use Rattle.integers.specs.Bounded.{Small};
 ghost use Rattle.integers.specs.Equal.{eqZ};
 ghost use Rattle.language.specs.Answer.{got};
 ghost use Rattle.language.specs.Limits.{maxAmount};
@@ -29,6 +30,10 @@ use integers::Pence;
 use tables::Span;
 use tables::lookup;
 use tables::lookup::Place;
+
+const LEAST: i64 = -9_000_000_000_000;
+
+const GREATEST: i64 = 9_000_000_000_000;
 
 // An amount in four months; it counts only where `all` is 1: all four came without a refusal. A whole word, so that answers are moved in
 // whole words.
@@ -138,17 +143,48 @@ pub fn over(nodes: &[i64; 2560], at: usize, x: FourValues) -> FourValues
 
 // ---- two amounts
 
+// Two amounts within the limit; what comes of them may be beyond it, and is tested afterwards.
+fn plus(x: Pence, y: Pence) -> Pence
+    requires { ⌜ Small (x .0) × Small (y .0) ⌝ }
+    ensures { λ r. ⌜ r .0 ≡ x .0 +ℤ y .0 ⌝ }
+{
+    Pence(x.0 + y.0)
+}
+
+fn minus(x: Pence, y: Pence) -> Pence
+    requires { ⌜ Small (x .0) × Small (y .0) ⌝ }
+    ensures { λ r. ⌜ r .0 ≡ x .0 -ℤ y .0 ⌝ }
+{
+    Pence(x.0 - y.0)
+}
+
+fn within(x: Pence) -> bool
+    ensures { λ r. ⌜ (r ≡ true → Small (x .0)) ⌝ }
+{
+    (LEAST <= x.0) & (x.0 <= GREATEST)
+}
+
+// The four, where none is beyond the limit: one test of all, with no jump in between.
+fn sure(x: Four) -> FourValues
+    ensures { λ r. ⌜ SureFour r (λ k. inRange maxAmount (penceIn x k)) ⌝ }
+{
+    if (within(x.a) & within(x.b)) & (within(x.c) & within(x.d)) {
+        return FourValues { four: x, all: 1 };
+    }
+    unsure()
+}
+
 pub fn sum_of(x: FourValues, y: FourValues) -> FourValues
     requires { ⌜ SmallFour x × SmallFour y ⌝ }
     ensures { λ r. ⌜ FromTwo (λ a b. inRange maxAmount (a +ℤ b)) x y r ⌝ }
 {
     if (x.all == 1) & (y.all == 1) {
-        return gathered(
-            answers::amount_of(integers::sum(x.four.a, y.four.a)),
-            answers::amount_of(integers::sum(x.four.b, y.four.b)),
-            answers::amount_of(integers::sum(x.four.c, y.four.c)),
-            answers::amount_of(integers::sum(x.four.d, y.four.d)),
-        );
+        return sure(Four {
+            a: plus(x.four.a, y.four.a),
+            b: plus(x.four.b, y.four.b),
+            c: plus(x.four.c, y.four.c),
+            d: plus(x.four.d, y.four.d),
+        });
     }
     unsure()
 }
@@ -158,12 +194,12 @@ pub fn difference_of(x: FourValues, y: FourValues) -> FourValues
     ensures { λ r. ⌜ FromTwo (λ a b. inRange maxAmount (a -ℤ b)) x y r ⌝ }
 {
     if (x.all == 1) & (y.all == 1) {
-        return gathered(
-            answers::amount_of(integers::difference(x.four.a, y.four.a)),
-            answers::amount_of(integers::difference(x.four.b, y.four.b)),
-            answers::amount_of(integers::difference(x.four.c, y.four.c)),
-            answers::amount_of(integers::difference(x.four.d, y.four.d)),
-        );
+        return sure(Four {
+            a: minus(x.four.a, y.four.a),
+            b: minus(x.four.b, y.four.b),
+            c: minus(x.four.c, y.four.c),
+            d: minus(x.four.d, y.four.d),
+        });
     }
     unsure()
 }

@@ -17,8 +17,8 @@ use nodes::AmountLetter;
 use nodes::TestLetter;
 use tables::Span;
 
-// The amount at a node: a number without a call. Small, so that the compiler puts it in each of its places.
-pub fn operands(
+// An `N` or an `O`; of any other letter nothing is said. Both here, so that `operands` is small.
+fn leaves(
     nodes: &[i64; 2560],
     values: &[i64],
     bounds: &[i64],
@@ -33,6 +33,27 @@ pub fn operands(
     let x = nodes::slot(nodes, at, 0);
     match x {
         78 => four::number(nodes, at),
+        79 => four::reading(nodes, values, bounds, span, waited, at),
+        _ => four::unsure(),
+    }
+}
+
+// The amount at a node: a number or an index without a call. Small, so that the compiler puts it in each of its places.
+pub fn operands(
+    nodes: &[i64; 2560],
+    values: &[i64],
+    bounds: &[i64],
+    span: Span,
+    waited: Month,
+    at: usize,
+    left: usize,
+) -> FourValues
+    requires { ⌜ Readable (span .h) (span .f) (now bounds) (now values) × FourWaited (waited .0) × AmountStands left (now nodes) at × fieldsOfAmount Near (amountAt offsetOf left (now nodes) at) ⌝ }
+    ensures { λ r. ⌜ SureFour r (λ k. valueIn (span .h) (span .f) (now (bounds .entry)) (now (values .entry)) (amountAt offsetOf left (now (nodes .entry)) at) (natOf (waited .0) + k)) ⌝ }
+{
+    let x = nodes::slot(nodes, at, 0);
+    match x {
+        78 | 79 => leaves(nodes, values, bounds, span, waited, at, left),
         _ => amounts(nodes, values, bounds, span, waited, at, left),
     }
 }

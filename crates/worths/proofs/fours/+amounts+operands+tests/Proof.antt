@@ -1,9 +1,9 @@
-use mathlib.Core.Path.{_≡_, refl}
+use mathlib.Core.Path.{_≡_}
 use mir.Syntax.{w64}
 use mir.Val.{SFits}
 use native.Mathlib.Omega.{arith}
 use borrow.Author.Needs.{needs}
-use Rattle.amounts.proofs.Nodes.{amount-inside, number-key, test-inside}
+use Rattle.amounts.proofs.Nodes.{amount-inside, test-inside}
 use Rattle.language.specs.Text.Form.{fieldsOfAmount, fieldsOfTest}
 use Rattle.nodes.specs.declared.AmountLetter.{AmountLetter}
 use Rattle.nodes.specs.declared.AmountLetter.the-variants as amount
@@ -34,6 +34,7 @@ use Rattle.worths.proofs.four.difference_of.Reads as difference-of-read
 use Rattle.worths.proofs.four.equal_to.Reads as equal-to-reads
 use Rattle.worths.proofs.four.less_than.Reads as less-than-reads
 use Rattle.worths.proofs.four.number.Reads as number-reads
+use Rattle.worths.proofs.fours.leaves.Reads as leaves-reads
 use Rattle.worths.proofs.four.one_holds.Reads as one-holds-reads
 use Rattle.worths.proofs.four.opposite.Reads as opposite-reads
 use Rattle.worths.proofs.four.over.Reads as over-reads
@@ -381,26 +382,19 @@ amounts-part t =
     (amounts-returns-8 t)
 
 abbrev operands-calls : ℕ → operands-lts.Claims
-operands-calls t = (slot-reads.Asked, slot-reads.Learnt, number-reads.Asked, number-reads.Learnt, amounts-below t, amounts.Post)
+operands-calls t = (slot-reads.Asked, slot-reads.Learnt, leaves-reads.Asked, leaves-reads.Learnt, amounts-below t, amounts.Post)
 
 operands-slot-requires : (t : ℕ) → operands-lts.Need-slot-requires (operands-calls t) (operands-at t) operands.Post
 operands-slot-requires t c κs = (amount-inside _ _ _ (c .pre .1 .2), omega arith)
 
-operands-number-requires : (t : ℕ) → operands-lts.Need-number-requires (operands-calls t) (operands-at t) operands.Post
-unfolding fieldsOfAmount
-operands-number-requires t c κs =
-    let f : SFits w64 (c .before .slot .result) = search needs in
-    let n = amount-node f (c .before .slot .ensures) (c .before .before .pre .1 .2) (c .before .before .pre .1 .3) (number-key _ f (c .match .keys1)) refl in
-    (n .inside, n .fields)
+operands-leaves-requires : (t : ℕ) → operands-lts.Need-leaves-requires (operands-calls t) (operands-at t) operands.Post
+operands-leaves-requires t c κs = c .before .before .before .pre .1
 
 operands-amounts-requires : (t : ℕ) → operands-lts.Need-amounts-requires (operands-calls t) (operands-at t) operands.Post
 operands-amounts-requires t c κs = (omega arith, c .before .before .pre .1)
 
 operands-returns : (t : ℕ) → operands-lts.Need-returns (operands-calls t) (operands-at t) operands.Post
-operands-returns t c =
-    let f : SFits w64 (c .before .before .slot .result) = search needs in
-    let n = amount-node f (c .before .before .slot .ensures) (c .before .before .before .pre .1 .2) (c .before .before .before .pre .1 .3) (number-key _ f (c .before .match .keys1)) refl in
-    λ e k m. arms.number-arm _ _ _ _ _ _ _ _ n (c .number .ensures e k m)
+operands-returns t c = c .leaves .ensures
 
 operands-returns-2 : (t : ℕ) → operands-lts.Need-returns-2 (operands-calls t) (operands-at t) operands.Post
 operands-returns-2 t c = c .amounts .ensures
@@ -409,7 +403,7 @@ operands-part : {M : Type 1} (t : ℕ) → operands-lts.Closed (operands-calls t
 operands-part t =
     operands-lts.spec (operands-calls t) (operands-at t) operands.Post
     (operands-slot-requires t)
-    (operands-number-requires t)
+    (operands-leaves-requires t)
     (operands-amounts-requires t)
     (operands-returns t)
     (operands-returns-2 t)
