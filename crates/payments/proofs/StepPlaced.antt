@@ -1,7 +1,7 @@
 -- What the step of an accepted plan pays today and writes, from the table in which its index readings are resolved.
 use Prim.Native.Nat.{_*_, _≤_, ℕ}
 use lib.IntN.{natAbs, ℤ}
-use lib.ListN.{drop}
+use lib.ListN.{drop, length}
 use mathlib.Core.Bool.{Bool, true}
 use mathlib.Core.List.{List}
 use mathlib.Core.Path.{_∙_, _≡_, ap, ap₂, refl, subst, sym}
@@ -15,11 +15,12 @@ use Rattle.copies.specs.Appended.{Appended}
 use Rattle.copies.specs.Plain.{plainRows}
 use Rattle.integers.specs.declared.Month.{Month}
 use Rattle.integers.specs.declared.Pence.{Pence}
+use Rattle.language.proofs.OneText.{texts}
 use Rattle.language.proofs.Rules.Tables.{bound-small, rules-of, value-bounded}
 use Rattle.language.proofs.Text.Form.{formed-map, formed-step}
 use Rattle.language.specs.Answer.{got, refused}
 use Rattle.language.specs.Calls.{acceptPlan, intoBuffer, lookupOf, pairOk, signOf}
-use Rattle.language.specs.Limits.{maxAmount, maxNodes}
+use Rattle.language.specs.Limits.{maxAmount, maxNodes, planBytes}
 use Rattle.language.specs.Payments.Pays.{pays}
 use Rattle.language.specs.Payments.Step.{step}
 use Rattle.language.specs.Rules.Accepted.{readsOf}
@@ -188,6 +189,9 @@ module _ {days : List ℤ} {h f : ℤ} {factors bounds values : List ℤ} {today
     text-is : written n out ≡ textOf
     unfolding printPlan ready
     text-is = plain-written planForm (planTrees (closed tomorrow) end) (subst (λ z. Appended table out 0 n (plainRows planForm (planTrees (closed z) end))) same-step (k (ready placed e))) (plan-says (closed tomorrow) (tomorrow-formed .fields))
+
+    pub text-short : length (written n out) ≤ planBytes
+    text-short = omega (arith, ap length text-is, texts .plans .short (closed tomorrow) tomorrow-formed)
 
     module _ (buffer : List ℕ) where
       pub buffer-is : {bytes : List ℕ} → bytes ≡ writeCall n out buffer .buffer → bytes ≡ intoBuffer buffer (steppedBy (givenOf days h f factors bounds values) today p q x) .buffer

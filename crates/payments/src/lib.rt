@@ -173,7 +173,7 @@ pub fn stepped(
                 32,
             );
             let pence = answer.pence;
-            let written = writer::write_text(&next, answer.next, out);
+            let written = writer::write_text(&next, answer.next, 8_704, out);
             match written {
                 Written::Bytes(bytes) => Stepping::Stepped(pence, bytes),
                 Written::NoRoom => Stepping::Refused(Refusal::NoRoom),

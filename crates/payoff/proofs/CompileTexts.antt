@@ -1,7 +1,7 @@
 -- The call compile: a text that is read is compiled into a second table, and its rows are written.
 use Prim.Native.Nat.{_*_, _≤_, ℕ}
 use lib.IntN.{pos, ℤ}
-use lib.ListN.{drop, take-append-drop}
+use lib.ListN.{drop, length, take-append-drop}
 use mathlib.Core.List.{List, _++_}
 use mathlib.Core.Path.{_∙_, _≡_, ap, refl, sym}
 use native.Mathlib.Nat.{zero-add}
@@ -10,11 +10,12 @@ use Rattle.compiles.specs.Ready.{Ready}
 use Rattle.copies.proofs.PlainWritten.{plain-written}
 use Rattle.copies.specs.Appended.{Appended}
 use Rattle.copies.specs.Plain.{plainRows}
+use Rattle.language.proofs.OneText.{texts}
 use Rattle.language.proofs.Text.Compiled.{compiled-formed}
 use Rattle.language.proofs.Text.Plans.{PlanRead, plan-trees}
 use Rattle.language.specs.Answer.{got, refused}
 use Rattle.language.specs.Calls.{compileCall, compileText, intoBuffer}
-use Rattle.language.specs.Limits.{maxNodes}
+use Rattle.language.specs.Limits.{maxNodes, payoffBytes}
 use Rattle.language.specs.Payoff.Compile.{compilePlan}
 use Rattle.language.specs.Text.Letters.{payoffForm, planForm}
 use Rattle.language.specs.Text.Plans.{payoffTrees, planTrees, printPayoff, readPlan}
@@ -64,6 +65,9 @@ module _ (text : List ℕ) where
       is-written : written m out ≡ printPayoff (compilePlan start (was .plan))
       unfolding printPayoff ready
       is-written = plain-written payoffForm (payoffTrees (compilePlan start (was .plan)) end) (k ready) (payoff-says (compilePlan start (was .plan)) (compiled-formed (was .plan) (was .formed) .fields))
+
+      pub is-short : length (written m out) ≤ payoffBytes
+      is-short = omega (arith, ap length is-written, texts .payoffs .short (compilePlan start (was .plan)) (compiled-formed (was .plan) (was .formed)))
 
       pub compile-is : (buffer : List ℕ) → writeCall m out buffer ≡ compileCall text buffer
       unfolding writeCall compileCall compileText

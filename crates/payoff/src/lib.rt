@@ -93,7 +93,7 @@ pub fn compile(text: &[u8], out: &mut [u8]) -> Writing
                 digits: 0,
             };
             let n = compiles::compile_plan(&nodes, &mut next, 0, 0, count, start, 32);
-            told(writer::write_text(&next, n, out))
+            told(writer::write_text(&next, n, 53_760, out))
         }
         Reading::Refused(refusal) => Writing::Refused(refusal),
     }

@@ -18,17 +18,17 @@ pub month-is : (a b : ℤ) (m : ℕ) → m ≡ natAbs b → fieldText month a b 
 unfolding printMonth joinWith
 month-is a b m q = rw q
 
-pub number-most : (z : ℤ) → length (printNumber z) ≤ 21
+number-most : (z : ℤ) → length (printNumber z) ≤ 21
 unfolding printNumber
 number-most (pos n) = omega (arith, digits-most n)
 number-most (negsuc n) = omega (arith, digits-most (suc n))
 
-pub delay-most : (z : ℤ) → length (printDelay (delayOf z)) ≤ 21
+delay-most : (z : ℤ) → length (printDelay (delayOf z)) ≤ 21
 unfolding printDelay printSetting
 delay-most (pos n) = omega (arith, digits-most n)
 delay-most (negsuc n) = omega arith
 
-pub month-most : (a b : ℤ) → length (fieldText month a b) ≤ 800
+month-most : (a b : ℤ) → length (fieldText month a b) ≤ 800
 month-most a b =
     omega (
       arith,

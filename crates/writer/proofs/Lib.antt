@@ -4,7 +4,6 @@ pub mod Built
 pub mod Decimal
 pub mod FieldTexts
 pub mod Letters
-pub mod Most
 pub mod Numbers
 pub mod Pairs
 pub mod Payoffs

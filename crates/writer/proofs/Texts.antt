@@ -35,7 +35,7 @@ unfolding fieldsOfRows
 behind-rows n nodes = behind-append 44 (fieldsOfRow nodes) (fieldsOfRows n (drop 5 nodes)) ∙ ap (λ (t : List ℕ). t ++ behind 44 (fieldsOfRows n (drop 5 nodes))) (behind-row nodes)
 
 -- a text is what stands behind a comma, without it
-pub written-behind : (n : ℕ) (nodes : List ℤ) → 44 ∷ written (suc n) nodes ≡ behind 44 (fieldsOfRows (suc n) nodes)
+written-behind : (n : ℕ) (nodes : List ℤ) → 44 ∷ written (suc n) nodes ≡ behind 44 (fieldsOfRows (suc n) nodes)
 unfolding written fieldsOfRows fieldsOfRow behind joinWith
 written-behind n nodes = refl
 
@@ -68,7 +68,7 @@ text-more i nodes h =
 -- ---- counting
 
 -- all rows so far, each behind a comma
-pub behind-more : (i : ℕ) (nodes : List ℤ) → behind 44 (fieldsOfRows (i + 1) nodes) ≡ behind 44 (fieldsOfRows i nodes) ++ (44 ∷ rowText (drop (5 * i) nodes))
+behind-more : (i : ℕ) (nodes : List ℤ) → behind 44 (fieldsOfRows (i + 1) nodes) ≡ behind 44 (fieldsOfRows i nodes) ++ (44 ∷ rowText (drop (5 * i) nodes))
 unfolding fieldsOfRows behind
 behind-more i nodes =
     ap (behind 44) (rows-split i 1 nodes) ∙ behind-append 44 (fieldsOfRows i nodes) (fieldsOfRows 1 (drop (5 * i) nodes))

@@ -47,13 +47,13 @@ fn put_text(nodes: &[i64], count: usize, out: &mut [u8]) -> usize
     place
 }
 
-// The text of the first `count` rows into `out`, or no byte of it where it does not fit. No row takes more than 901 bytes, so few rows need no count.
-pub fn write_text(nodes: &[i64], count: usize, out: &mut [u8]) -> Written
-    requires { ⌜ (5 * count ≤ length (now nodes)) × (count ≤ 512) ⌝ }
+// The text of the first `count` rows into `out`, or no byte of it where it does not fit. It has at most `most` bytes: a buffer that holds so many needs no count.
+pub fn write_text(nodes: &[i64], count: usize, most: usize, out: &mut [u8]) -> Written
+    requires { ⌜ (5 * count ≤ length (now nodes)) × (count ≤ 512) × (length (written count (now nodes)) ≤ most) ⌝ }
     ensures { λ r. ⌜ (now (out .exit) ≡ writeCall count (now (nodes .entry)) (now (out .entry)) .buffer)
         × (writtenAnswer r ≡ writeCall count (now (nodes .entry)) (now (out .entry)) .answer) ⌝ }
 {
-    if 901 * count <= out.len() {
+    if most <= out.len() {
         let end = put_text(nodes, count, out);
         return Written::Bytes(end);
     }

@@ -1,7 +1,7 @@
 use lib.ListN.{length}
 use mathlib.Core.Path.{_∙_, _≡_, ap, sym}
 use native.Mathlib.Omega.{arith}
-use Rattle.payments.proofs.StepPlaced.{answer-is, buffer-is, fine, pair-is, pence-are, placing, ready, refusal-is, refusal-keeps, rows-in, span-in, stands, today-is, with-bytes, without-room}
+use Rattle.payments.proofs.StepPlaced.{answer-is, buffer-is, fine, pair-is, pence-are, placing, ready, refusal-is, refusal-keeps, rows-in, span-in, stands, text-short, today-is, with-bytes, without-room}
 use Rattle.rules.proofs.Filling.{standing-rows}
 use Rattle.writer.specs.Answers.{writtenAnswer}
 use borrow.Author.Needs.{needs}
@@ -42,7 +42,9 @@ write-text-requires c κs =
     let s = c .before .before .before .before .before .before .before .before .before .before .before .before .before .before .before in
     let n = c .before .before .before .before .step-plan .ensures .1 in
     let e : length (c .before .before .before .before .step-plan .last .1 .1 .1 .1 .1 .1 .0) ≡ 2560 = search needs in
-    (omega (arith, standing-rows (s .pre .0 .standing), n), omega (arith, standing-rows (s .pre .0 .standing), n))
+    let w = placing (s .args .pair .p) (s .args .pair .q) (c .before .before .before .before .before .before .before .before .before .before .before .before .accept .ensures) (s .pre .1) (c .before .before .before .before .before .before .before .before .before .before .checking .given .1) (s .pre .0 .standing) in
+    let r = c .before .before .before .before .before .before .before .place-rows in
+    (omega (arith, standing-rows (s .pre .0 .standing), n), omega (arith, standing-rows (s .pre .0 .standing), n), text-short w (r .last .0) (r .ensures) _ _ _ (c .before .before .before .before .step-plan .ensures .2))
 
 enum-known-written : tie.Need-enum-known-written
 enum-known-written c = search needs

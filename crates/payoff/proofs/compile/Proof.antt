@@ -3,7 +3,7 @@ use mathlib.Core.Path.{_∙_, _≡_, ap, subst}
 use native.Mathlib.Omega.{arith}
 use Rattle.language.specs.Text.Letters.{planForm}
 use Rattle.language.specs.Text.Reader.{readText}
-use Rattle.payoff.proofs.CompileTexts.{compile-is, few, kept, ready, refusal-is}
+use Rattle.payoff.proofs.CompileTexts.{compile-is, few, is-short, kept, ready, refusal-is}
 use Rattle.text.specs.ReadInto.{ReadInto}
 use borrow.Author.Needs.{needs}
 use Rattle.payoff.proofs.compile.Statement.{statement}
@@ -38,7 +38,7 @@ write-text-requires c κs =
     let r = subst (ReadInto planForm (readText planForm (a .text .now)) (p .last .1 .0)) (c .before .before .before .before .before .before .before .reading .given .1) (p .ensures .0) in
     let n = c .before .before .before .compile-plan .ensures .0 in
     let e : length (c .before .before .before .compile-plan .last .1 .0) ≡ 2560 = search needs in
-    (omega (arith, few (a .text .now) (p .last .1 .0) _ r, n), omega (arith, few (a .text .now) (p .last .1 .0) _ r, n))
+    (omega (arith, few (a .text .now) (p .last .1 .0) _ r, n), omega (arith, few (a .text .now) (p .last .1 .0) _ r, n), is-short (a .text .now) (p .last .1 .0) _ r (c .before .before .before .compile-plan .ensures .1))
 
 told-requires : tie.Need-told-requires
 told-requires c κs = search needs

@@ -2,19 +2,15 @@
 use borrow.Author.Needs.{needs}
 use mathlib.Core.Path.{refl}
 use native.Mathlib.Omega.{arith}
-use Rattle.writer.proofs.Most.{text-most}
 use Rattle.writer.proofs.Whole.{no-room, whole}
 use Rattle.writer.proofs.write_text.Statement.{statement}
 use Rattle.writer.proofs.write_text.Tie as tie
 use Rattle.writer.specs.Answers.{writeCall}
 
-mul-if1 : tie.Need-mul-if1
-mul-if1 c = search needs
-
 put-text-requires : tie.Need-put-text-requires
 put-text-requires c κs =
     let s = c .before .before .before in
-    (s .pre .0, omega (arith, text-most (s .args .count) (s .args .nodes .now), c .before .if1 .taken))
+    (s .pre .0, omega (arith, s .pre .2, c .before .if1 .taken))
 
 same-length : tie.Need-same-length
 same-length c = search needs
@@ -23,7 +19,7 @@ returns : tie.Need-returns
 unfolding writeCall
 returns c =
     let s = c .before .before .before .before .before .before in
-    whole _ _ _ refl (omega (arith, text-most (s .args .count) (s .args .nodes .now), c .before .before .before .before .if1 .taken)) _ _ (c .before .before .put-text .ensures)
+    whole _ _ _ refl (omega (arith, s .pre .2, c .before .before .before .before .if1 .taken)) _ _ (c .before .before .put-text .ensures)
 
 text-length-requires : tie.Need-text-length-requires
 text-length-requires c κs = search needs
@@ -46,7 +42,6 @@ pub write-text-spec : {M : Type 1} → statement M
 write-text-spec =
     tie.close
     (tie.spec
-    mul-if1
     put-text-requires
     same-length
     returns
