@@ -2,21 +2,25 @@
 use Prim.Native.Nat.{_+_, _≤_, suc, ℕ}
 use lib.IntN.{natAbs, negsuc, pos, ℤ}
 use lib.ListN.{length, length-append}
-use mathlib.Core.List.{_++_}
-use mathlib.Core.Path.{_≡_, ap, refl}
+use mathlib.Core.List.{_++_, _∷_, append-nil}
+use mathlib.Core.Path.{_∙_, _≡_, ap, refl}
 use native.Mathlib.Omega.{arith}
 use Rattle.language.specs.Text.Classes.{printDelay, printMonth, printSetting}
 use Rattle.language.specs.Text.Fields.{joinWith}
 use Rattle.language.specs.Text.Letters.{delay, month}
 use Rattle.language.specs.Text.Number.{printNumber}
 use Rattle.writer.proofs.Decimal.{digits-most}
-use Rattle.writer.proofs.SettingTexts.{settings-most}
-use Rattle.writer.specs.Shapes.{settingsText}
+use Rattle.writer.proofs.SettingTexts.{no-settings, settings-most}
+use Rattle.writer.specs.Shapes.{monthField, numberField, settingsText}
 use Rattle.writer.specs.Written.{delayOf, fieldText}
 
 pub month-is : (a b : ℤ) (m : ℕ) → m ≡ natAbs b → fieldText month a b ≡ printNumber a ++ settingsText m
 unfolding printMonth joinWith
 month-is a b m q = rw q
+
+-- with no settings it is the number alone
+pub plain-month : (a b : ℤ) (m : ℕ) → m ≡ natAbs b → m ≡ 0 → monthField a b ≡ numberField a
+plain-month a b m q e = ap (λ t. 44 ∷ t) (month-is a b m q ∙ ap (λ t. printNumber a ++ t) (no-settings m e) ∙ append-nil (printNumber a))
 
 number-most : (z : ℤ) → length (printNumber z) ≤ 21
 unfolding printNumber

@@ -6,7 +6,7 @@ use lib.IntN.{_-ℤ_, natAbs, negsuc, pos, ℤ}
 use lib.Signed.{ltZ, mag, nonNeg}
 use mathlib.Core.Bool.{Bool, _&&_, false, true, true≢false}
 use mathlib.Core.List.{[], _∷_}
-use mathlib.Core.Path.{_∙_, _≡_, refl, sym}
+use mathlib.Core.Path.{_∙_, _≡_, ap, refl, sym}
 use mir.Facts.{toZ-ofZ}
 use mir.Syntax.{w64, w8}
 use mir.Val.{Fits, SFits, ofZ, toZ}
@@ -127,16 +127,22 @@ module _ (z : ℤ) (f : SFits w64 z) (m : ℕ) (q : m ≡ natAbs z) where
   pub some-below : ltZ (rd z) (pos 0) ≡ true → 1 ≤ m
   some-below e = omega (arith, abs-some z (test-is z f true e))
 
--- ---- numbers of one digit
+-- ---- short numbers
 
-digit-parts : (z : ℤ) → between (pos 0) (pos 9) z ≡ true → (natAbs z < 10) × T (nonNeg z) × (printNumber z ≡ (48 + natAbs z) ∷ [])
+from-zero : (b : ℕ) (z : ℤ) → between (pos 0) (pos b) z ≡ true → (natAbs z ≤ b) × T (nonNeg z) × (printNumber z ≡ printNat (natAbs z))
 unfolding printNumber
-digit-parts (pos n) e = let h : n < 10 = omega (arith, leb-true n 9 (both (leb 0 n) (leb n 9) e)) in (h, tt, print-few n h)
+from-zero b (pos n) e = (leb-true n b (both (leb 0 n) (leb n b) e), tt, refl)
   where
     both : (a b : Bool) → a && b ≡ true → b ≡ true
     both true b e = e
     both false b e = absurd (true≢false (sym e))
-digit-parts (negsuc n) e = absurd (true≢false (sym e))
+from-zero b (negsuc n) e = absurd (true≢false (sym e))
+
+pub short-text : (z : ℤ) (m : ℕ) → m ≡ natAbs z → between (pos 0) (pos 9_999) z ≡ true → (m < 10_000) × (printNumber z ≡ printNat m)
+short-text z m q e = (omega (arith, from-zero 9_999 z e .0), from-zero 9_999 z e .2 ∙ ap printNat (sym q))
+
+digit-parts : (z : ℤ) → between (pos 0) (pos 9) z ≡ true → (natAbs z < 10) × T (nonNeg z) × (printNumber z ≡ (48 + natAbs z) ∷ [])
+digit-parts z e = let h = from-zero 9 z e in let l : natAbs z < 10 = omega (arith, h .0) in (l, h .1, h .2 ∙ print-few (natAbs z) l)
 
 pub digit-text : (z : ℤ) → between (pos 0) (pos 9) z ≡ true → printNumber z ≡ (48 + natAbs z) ∷ []
 digit-text z e = digit-parts z e .2

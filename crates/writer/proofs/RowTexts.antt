@@ -3,11 +3,11 @@ use Prim.Native.Nat.{_+_, suc, zero, ℕ}
 use lib.IntN.{pos, ℤ}
 use lib.ListN.{drop, length, length-append}
 use lib.Seq.{getD-drop}
-use mathlib.Core.List.{List, [], _++_, _∷_}
+use mathlib.Core.List.{List, [], _++_, _∷_, append-nil}
 use mathlib.Core.Path.{_∙_, _≡_, ap, refl, subst, sym}
 use native.Mathlib.Omega.{arith}
 use Rattle.language.specs.Text.Fields.{behind, joinWith}
-use Rattle.writer.specs.Shapes.{ShapeOf, commaAt, delayField, monthField, numberField, rowText, shapeFields}
+use Rattle.writer.specs.Shapes.{ShapeOf, commaAt, delayField, indexParts, leafParts, monthField, numberField, rowText, shapeFields}
 use Rattle.writer.specs.Written.{fieldsOfRow, letterByte, slot}
 use Rattle.writer.specs.declared.rows.Shape.the-variants.{Bare, Index, Leaf, Number, Pair, Wait}
 use Rattle.writer.specs.declared.rows.Shape.{Shape}
@@ -22,6 +22,12 @@ partsAt Index j nodes = numberField (slot nodes (j + 1)) ++ (monthField (slot no
 partsAt Leaf j nodes = monthField (slot nodes (j + 1)) (slot nodes (j + 1 + 1)) ++ (numberField (slot nodes (j + 3)) ++ (numberField (slot nodes (j + 4)) ++ []))
 
 module _ (nodes : List ℤ) (j : ℕ) where
+  pub index-parts : partsAt Index j nodes ≡ indexParts j nodes
+  index-parts = ap (λ t. numberField (slot nodes (j + 1)) ++ t) (append-nil (monthField (slot nodes (j + 2)) (slot nodes (j + 2 + 1))))
+
+  pub leaf-parts : partsAt Leaf j nodes ≡ leafParts j nodes
+  leaf-parts = ap (λ t. monthField (slot nodes (j + 1)) (slot nodes (j + 1 + 1)) ++ (numberField (slot nodes (j + 3)) ++ t)) (append-nil (numberField (slot nodes (j + 4))))
+
   here : (k i : ℕ) → j + k ≡ i → slot (drop j nodes) k ≡ slot nodes i
   here k i e = getD-drop j nodes k (pos 0) ∙ ap (slot nodes) e
 

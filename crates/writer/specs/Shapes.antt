@@ -1,7 +1,7 @@
 -- Which fields a row has, as the code tells them apart, and the texts of its parts.
-use Prim.Native.Nat.{suc, zero, ℕ}
+use Prim.Native.Nat.{_+_, suc, zero, ℕ}
 use lib.IntN.{ℤ}
-use mathlib.Core.List.{List, [], _∷_}
+use mathlib.Core.List.{List, [], _++_, _∷_}
 use mathlib.Core.Path.{_≡_}
 use Rattle.language.specs.Text.Classes.{settingFields}
 use Rattle.language.specs.Text.Fields.{behind, join}
@@ -30,6 +30,14 @@ monthField a b = byte "," ∷ fieldText month a b
 -- a row's text: its letter, then its fields behind commas
 unfoldable pub rowText : List ℤ → List ℕ
 rowText row = join (fieldsOfRow row)
+
+-- of the index at j, what stands behind its letter: label and month
+abbrev pub indexParts : ℕ → List ℤ → List ℕ
+indexParts j nodes = numberField (slot nodes (j + 1)) ++ monthField (slot nodes (j + 2)) (slot nodes (j + 2 + 1))
+
+-- of the leaf at j: month and parties
+abbrev pub leafParts : ℕ → List ℤ → List ℕ
+leafParts j nodes = monthField (slot nodes (j + 1)) (slot nodes (j + 1 + 1)) ++ (numberField (slot nodes (j + 3)) ++ numberField (slot nodes (j + 4)))
 
 -- the comma in front of row i: the first has none
 abbrev pub commaAt : ℕ → List ℕ

@@ -148,17 +148,40 @@ pub fn put_by_pairs(pairs: &[u8; 200], n: u64, out: &mut [u8], at: usize) -> usi
     }
 }
 
-// The same where the caller holds no table; short numbers need none.
+// ---- the same where the caller holds no table
+
+// Writes the digits of a number below 10,000, which needs none.
+pub fn put_short(n: u32, out: &mut [u8], at: usize) -> usize
+    requires { ⌜ (n < 10_000) × (at + length (printNat n) ≤ length (now out)) ⌝ }
+    ensures { λ r. ⌜ Put (now (out .entry)) (now (out .exit)) at r (printNat n) ⌝ }
+{
+    if n < 100 {
+        put_to_two(n, out, at)
+    } else {
+        let next = put_to_two(n / 100, out, at);
+        put_two(n % 100, out, next)
+    }
+}
+
+// Writes the digits of n from a table laid out for it alone.
+fn put_long(n: u64, out: &mut [u8], at: usize) -> usize
+    requires { ⌜ (n ≤ 2 ^ 63) × (at + length (printNat n) ≤ length (now out)) ⌝ }
+    ensures { λ r. ⌜ Put (now (out .entry)) (now (out .exit)) at r (printNat n) ⌝ }
+{
+    let pairs =
+        b"00010203040506070809101112131415161718192021222324252627282930313233343536373839404142434445464748495051525354555657585960616263646566676869707172737475767778798081828384858687888990919293949596979899";
+    put_by_pairs(pairs, n, out, at)
+}
+
+// Writes the digits of n.
 pub fn put_digits(n: u64, out: &mut [u8], at: usize) -> usize
     requires { ⌜ (n ≤ 2 ^ 63) × (at + length (printNat n) ≤ length (now out)) ⌝ }
     ensures { λ r. ⌜ Put (now (out .entry)) (now (out .exit)) at r (printNat n) ⌝ }
 {
-    if n < 100 {
-        put_to_two(n as u32, out, at)
+    if n < 10_000 {
+        put_short(n as u32, out, at)
     } else {
-        let pairs =
-            b"00010203040506070809101112131415161718192021222324252627282930313233343536373839404142434445464748495051525354555657585960616263646566676869707172737475767778798081828384858687888990919293949596979899";
-        put_by_pairs(pairs, n, out, at)
+        put_long(n, out, at)
     }
 }
 
@@ -169,6 +192,15 @@ pub fn is_digit(nodes: &[i64], k: usize) -> bool
 {
     let z = nodes[k];
     (0 <= z) & (z <= 9)
+}
+
+// Whether the number at k is from 0 to 9,999.
+pub fn is_short(nodes: &[i64], k: usize) -> bool
+    requires { ⌜ k < length (now nodes) ⌝ }
+    ensures { λ r. ⌜ r ≡ between (pos 0) (pos 9_999) (slot (now (nodes .entry)) k) ⌝ }
+{
+    let z = nodes[k];
+    (0 <= z) & (z <= 9_999)
 }
 
 // The bytes of the number at k, its digits counted.
@@ -201,6 +233,15 @@ pub fn put_digit(nodes: &[i64], k: usize, out: &mut [u8], at: usize) -> usize
     let z = nodes[k];
     out[at] = 48 + z as u8;
     at + 1
+}
+
+// Writes the number at k, from 0 to 9,999.
+pub fn put_few(nodes: &[i64], k: usize, out: &mut [u8], at: usize) -> usize
+    requires { ⌜ (k < length (now nodes)) × (between (pos 0) (pos 9_999) (slot (now nodes) k) ≡ true) × (at + length (printNumber (slot (now nodes) k)) ≤ length (now out)) ⌝ }
+    ensures { λ r. ⌜ Put (now (out .entry)) (now (out .exit)) at r (printNumber (slot (now (nodes .entry)) k)) ⌝ }
+{
+    let n = magnitude(nodes, k);
+    put_short(n as u32, out, at)
 }
 
 // Writes the number at k.

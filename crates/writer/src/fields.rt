@@ -112,13 +112,14 @@ pub fn put_month(nodes: &[i64], k: usize, out: &mut [u8], at: usize) -> usize
     requires { ⌜ (k + 1 < length (now nodes)) × (at + length (monthField (slot (now nodes) k) (slot (now nodes) (k + 1))) ≤ length (now out)) ⌝ }
     ensures { λ r. ⌜ Put (now (out .entry)) (now (out .exit)) at r (monthField (slot (now (nodes .entry)) k) (slot (now (nodes .entry)) (k + 1))) ⌝ }
 {
-    let next = put_field(nodes, k, out, at);
+    out[at] = b',';
+    let next = digits::put_number(nodes, k, out, at + 1);
     put_settings(digits::magnitude(nodes, k + 1), out, next)
 }
 
 // ---- numbers
 
-// Writes a comma and the number at k.
+// Writes a comma and the number at k, one digit at once.
 pub fn put_field(nodes: &[i64], k: usize, out: &mut [u8], at: usize) -> usize
     requires { ⌜ (k < length (now nodes)) × (at + length (numberField (slot (now nodes) k)) ≤ length (now out)) ⌝ }
     ensures { λ r. ⌜ Put (now (out .entry)) (now (out .exit)) at r (numberField (slot (now (nodes .entry)) k)) ⌝ }
@@ -131,7 +132,20 @@ pub fn put_field(nodes: &[i64], k: usize, out: &mut [u8], at: usize) -> usize
     }
 }
 
-// The same, where the caller holds the table of pairs.
+// The same, up to four digits at once.
+pub fn put_figure(nodes: &[i64], k: usize, out: &mut [u8], at: usize) -> usize
+    requires { ⌜ (k < length (now nodes)) × (at + length (numberField (slot (now nodes) k)) ≤ length (now out)) ⌝ }
+    ensures { λ r. ⌜ Put (now (out .entry)) (now (out .exit)) at r (numberField (slot (now (nodes .entry)) k)) ⌝ }
+{
+    out[at] = b',';
+    if digits::is_short(nodes, k) {
+        digits::put_few(nodes, k, out, at + 1)
+    } else {
+        digits::put_number(nodes, k, out, at + 1)
+    }
+}
+
+// The same as `put_field`, where the caller holds the table of pairs.
 pub fn put_field_by(pairs: &[u8; 200], nodes: &[i64], k: usize, out: &mut [u8], at: usize) -> usize
     requires { ⌜ (k < length (now nodes)) × (at + length (numberField (slot (now nodes) k)) ≤ length (now out)) × (now pairs ≡ allPairs) ⌝ }
     ensures { λ r. ⌜ Put (now (out .entry)) (now (out .exit)) at r (numberField (slot (now (nodes .entry)) k)) ⌝ }

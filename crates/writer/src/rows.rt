@@ -3,7 +3,7 @@ ghost use mathlib.Core.Path.{_≡_};
 ghost use Prim.Native.Nat.{_+_, _<_, _≤_};
 ghost use lib.ListN.{drop, length};
 ghost use Rattle.writer.specs.Put.{Put};
-ghost use Rattle.writer.specs.Shapes.{ShapeOf, commaAt, rowText};
+ghost use Rattle.writer.specs.Shapes.{ShapeOf, commaAt, indexParts, leafParts, rowText};
 ghost use Rattle.writer.specs.Written.{letterByte, slot};
 use crate::digits;
 use crate::fields;
@@ -75,6 +75,38 @@ pub fn row_length(nodes: &[i64], j: usize) -> usize
     }
 }
 
+// Writes the label and the month of the index at j. Most months have no settings and are a number alone.
+fn put_index(nodes: &[i64], j: usize, out: &mut [u8], at: usize) -> usize
+    requires { ⌜ (j + 5 ≤ length (now nodes)) × (at + length (indexParts j (now nodes)) ≤ length (now out)) ⌝ }
+    ensures { λ r. ⌜ Put (now (out .entry)) (now (out .exit)) at r (indexParts j (now (nodes .entry))) ⌝ }
+{
+    let month = j + 2;
+    let next = fields::put_field(nodes, j + 1, out, at);
+    if digits::magnitude(nodes, month + 1) == 0 {
+        fields::put_field(nodes, month, out, next)
+    } else {
+        fields::put_month(nodes, month, out, next)
+    }
+}
+
+// Writes the month and the parties of the leaf at j.
+fn put_leaf(nodes: &[i64], j: usize, out: &mut [u8], at: usize) -> usize
+    requires { ⌜ (j + 5 ≤ length (now nodes)) × (at + length (leafParts j (now nodes)) ≤ length (now out)) ⌝ }
+    ensures { λ r. ⌜ Put (now (out .entry)) (now (out .exit)) at r (leafParts j (now (nodes .entry))) ⌝ }
+{
+    let month = j + 1;
+    let settings = digits::magnitude(nodes, month + 1);
+    if settings == 0 {
+        let next = fields::put_field(nodes, month, out, at);
+        let third = fields::put_field(nodes, j + 3, out, next);
+        fields::put_field(nodes, j + 4, out, third)
+    } else {
+        let next = fields::put_month(nodes, month, out, at);
+        let third = fields::put_field(nodes, j + 3, out, next);
+        fields::put_field(nodes, j + 4, out, third)
+    }
+}
+
 // Writes the row at j.
 pub fn put_row(nodes: &[i64], j: usize, out: &mut [u8], at: usize) -> usize
     requires { ⌜ (j + 5 ≤ length (now nodes)) × (at + length (rowText (drop j (now nodes))) ≤ length (now out)) ⌝ }
@@ -86,21 +118,14 @@ pub fn put_row(nodes: &[i64], j: usize, out: &mut [u8], at: usize) -> usize
     let place = at + 1;
     match shape {
         Shape::Bare => place,
-        Shape::Number => fields::put_field(nodes, j + 1, out, place),
+        Shape::Number => fields::put_figure(nodes, j + 1, out, place),
         Shape::Pair => {
             let next = fields::put_field(nodes, j + 1, out, place);
             fields::put_field(nodes, j + 2, out, next)
         }
         Shape::Wait => fields::put_delay(nodes, j + 1, out, place),
-        Shape::Index => {
-            let next = fields::put_field(nodes, j + 1, out, place);
-            fields::put_month(nodes, j + 2, out, next)
-        }
-        Shape::Leaf => {
-            let next = fields::put_month(nodes, j + 1, out, place);
-            let third = fields::put_field(nodes, j + 3, out, next);
-            fields::put_field(nodes, j + 4, out, third)
-        }
+        Shape::Index => put_index(nodes, j, out, place),
+        Shape::Leaf => put_leaf(nodes, j, out, place),
     }
 }
 

@@ -7,10 +7,10 @@ use mathlib.Core.List.{List, [], _++_, _∷_}
 use mathlib.Core.Path.{_∙_, _≡_, refl, sym}
 use native.Mathlib.Omega.{arith}
 use Rattle.writer.proofs.Puts.{kept, none, one, room-as, room-first, room-front, room-next, said, then}
-use Rattle.writer.proofs.RowTexts.{partsAt, row-at}
+use Rattle.writer.proofs.RowTexts.{index-parts, leaf-parts, partsAt, row-at}
 use Rattle.writer.proofs.rows.put_row.Statement.{statement}
 use Rattle.writer.proofs.rows.put_row.Tie as tie
-use Rattle.writer.specs.Shapes.{delayField, monthField, numberField, rowText}
+use Rattle.writer.specs.Shapes.{delayField, numberField, rowText}
 use Rattle.writer.specs.Written.{slot}
 use Rattle.writer.specs.declared.rows.Shape.the-variants.{Bare, Index, Leaf, Number, Pair, Wait}
 use Rattle.writer.specs.declared.rows.Shape.{Shape}
@@ -28,10 +28,6 @@ module _ (c : tie.After-shape-at) where
   abbrev figure : ℕ → ℤ
   figure k = slot nodes (j + k)
 
-  -- of a month's field at k
-  abbrev settings : ℕ → ℤ
-  settings k = slot nodes (j + k + 1)
-
   text : (t : Shape) → c .shape-at .result ≡ t → rowText (drop j nodes) ≡ c .before .letter-byte .result ∷ partsAt t j nodes
   text t e = row-at nodes j _ (c .before .letter-byte .ensures) _ (c .shape-at .ensures) t e
 
@@ -44,9 +40,6 @@ module _ (c : tie.After-shape-at) where
   -- fields with their commas
   abbrev number : ℕ → List ℕ
   number k = numberField (figure k)
-
-  abbrev months : ℕ → List ℕ
-  months k = monthField (figure k) (settings k)
 
 letter-byte-requires : tie.Need-letter-byte-requires
 letter-byte-requires c κs = search needs
@@ -66,11 +59,11 @@ enum-told c = search needs
 enum-told-2 : tie.Need-enum-told-2
 enum-told-2 c = search needs
 
-add-put-field : tie.Need-add-put-field
-add-put-field c = search needs
+add-put-figure : tie.Need-add-put-figure
+add-put-figure c = search needs
 
-put-field-requires : tie.Need-put-field-requires
-put-field-requires c κs = let s : tie.After-shape-at = c .before .before .before in (
+put-figure-requires : tie.Need-put-figure-requires
+put-figure-requires c κs = let s : tie.After-shape-at = c .before .before .before in (
   omega (arith, start s .pre .0),
   room-first _ _ (number s 1) []
       (room s Number (c .before .enum-told2 .given .1)),
@@ -79,26 +72,26 @@ put-field-requires c κs = let s : tie.After-shape-at = c .before .before .befor
 enum-told-3 : tie.Need-enum-told-3
 enum-told-3 c = search needs
 
-add-put-field-2 : tie.Need-add-put-field-2
-add-put-field-2 c = search needs
+add-put-field : tie.Need-add-put-field
+add-put-field c = search needs
 
-put-field-requires-2 : tie.Need-put-field-requires-2
-put-field-requires-2 c κs = let s : tie.After-shape-at = c .before .before .before in (
+put-field-requires : tie.Need-put-field-requires
+put-field-requires c κs = let s : tie.After-shape-at = c .before .before .before in (
   omega (arith, start s .pre .0),
   room-first _ _ (number s 1) ((number s 2) ++ [])
       (room s Pair (c .before .enum-told3 .given .1)),
 )
 
-add-put-field-3 : tie.Need-add-put-field-3
-add-put-field-3 c = search needs
+add-put-field-2 : tie.Need-add-put-field-2
+add-put-field-2 c = search needs
 
-put-field-requires-3 : tie.Need-put-field-requires-3
-put-field-requires-3 c κs = let s : tie.After-shape-at = c .before .before .before .before .before .before .before in (
+put-field-requires-2 : tie.Need-put-field-requires-2
+put-field-requires-2 c κs = let s : tie.After-shape-at = c .before .before .before .before .before .before .before in (
   omega (arith, start s .pre .0),
   room-first _ _ (number s 2) []
       (room-next _
       (room s Pair (c .before .before .before .before .before .enum-told3 .given .1))
-      (c .before .before .before .put-field2 .ensures)),
+      (c .before .before .before .put-field .ensures)),
 )
 
 enum-told-4 : tie.Need-enum-told-4
@@ -117,66 +110,16 @@ put-delay-requires c κs = let s : tie.After-shape-at = c .before .before .befor
 enum-told-5 : tie.Need-enum-told-5
 enum-told-5 c = search needs
 
-add-put-field-4 : tie.Need-add-put-field-4
-add-put-field-4 c = search needs
-
-put-field-requires-4 : tie.Need-put-field-requires-4
-put-field-requires-4 c κs = let s : tie.After-shape-at = c .before .before .before in (
-  omega (arith, start s .pre .0),
-  room-first _ _ (number s 1) ((months s 2) ++ [])
-      (room s Index (c .before .enum-told5 .given .1)),
-)
-
-add-put-month : tie.Need-add-put-month
-add-put-month c = search needs
-
-put-month-requires : tie.Need-put-month-requires
-put-month-requires c κs = let s : tie.After-shape-at = c .before .before .before .before .before .before .before in (
-  omega (arith, start s .pre .0),
-  room-first _ _ (months s 2) []
-      (room-next _
-      (room s Index (c .before .before .before .before .before .enum-told5 .given .1))
-      (c .before .before .before .put-field4 .ensures)),
-)
+put-index-requires : tie.Need-put-index-requires
+put-index-requires c κs = let s : tie.After-shape-at = c .before .before .before in
+    (start s .pre .0, room-as _ _ _ _ (index-parts (nodes s) (j s)) (room s Index (c .before .enum-told5 .given .1)))
 
 enum-told-6 : tie.Need-enum-told-6
 enum-told-6 c = search needs
 
-add-put-month-2 : tie.Need-add-put-month-2
-add-put-month-2 c = search needs
-
-put-month-requires-2 : tie.Need-put-month-requires-2
-put-month-requires-2 c κs = let s : tie.After-shape-at = c .before .before .before in (
-  omega (arith, start s .pre .0),
-  room-first _ _ (months s 1) ((number s 3) ++ ((number s 4) ++ []))
-      (room s Leaf (c .before .enum-told6 .given .1)),
-)
-
-add-put-field-5 : tie.Need-add-put-field-5
-add-put-field-5 c = search needs
-
-put-field-requires-5 : tie.Need-put-field-requires-5
-put-field-requires-5 c κs = let s : tie.After-shape-at = c .before .before .before .before .before .before .before in (
-  omega (arith, start s .pre .0),
-  room-first _ _ (number s 3) ((number s 4) ++ [])
-      (room-next _
-      (room s Leaf (c .before .before .before .before .before .enum-told6 .given .1))
-      (c .before .before .before .put-month2 .ensures)),
-)
-
-add-put-field-6 : tie.Need-add-put-field-6
-add-put-field-6 c = search needs
-
-put-field-requires-6 : tie.Need-put-field-requires-6
-put-field-requires-6 c κs = let s : tie.After-shape-at = c .before .before .before .before .before .before .before .before .before .before .before in (
-  omega (arith, start s .pre .0),
-  room-first _ _ (number s 4) []
-      (room-next _
-      (room-next _
-      (room s Leaf (c .before .before .before .before .before .before .before .before .before .enum-told6 .given .1))
-      (c .before .before .before .before .before .before .before .put-month2 .ensures))
-      (c .before .before .before .put-field5 .ensures)),
-)
+put-leaf-requires : tie.Need-put-leaf-requires
+put-leaf-requires c κs = let s : tie.After-shape-at = c .before .before .before in
+    (start s .pre .0, room-as _ _ _ _ (leaf-parts (nodes s) (j s)) (room s Leaf (c .before .enum-told6 .given .1)))
 
 same-length : tie.Need-same-length
 same-length c = search needs
@@ -186,19 +129,19 @@ returns c = let s : tie.After-shape-at = c .before .before in
     said (sym (text s Bare (c .enum-told .given .1))) (one _ _ _)
 
 same-length-2 : tie.Need-same-length-2
-same-length-2 c = c .before .before .put-field .kept .1 .1 .0 ∙ simp length-set
+same-length-2 c = c .before .before .put-figure .kept .1 .1 .0 ∙ simp length-set
 
 returns-2 : tie.Need-returns-2
 returns-2 c = let s : tie.After-shape-at = c .before .before .before .before .before .before in
-    said (sym (text s Number (c .before .before .before .before .enum-told2 .given .1))) (then (one _ _ _) (then (c .before .before .put-field .ensures) none))
+    said (sym (text s Number (c .before .before .before .before .enum-told2 .given .1))) (then (one _ _ _) (then (c .before .before .put-figure .ensures) none))
 
 same-length-3 : tie.Need-same-length-3
-same-length-3 c = c .before .before .put-field3 .kept .1 .1 .0 ∙ c .before .before .before .before .before .before .put-field2 .kept .1 .1 .0 ∙ simp length-set
+same-length-3 c = c .before .before .put-field2 .kept .1 .1 .0 ∙ c .before .before .before .before .before .before .put-field .kept .1 .1 .0 ∙ simp length-set
 
 returns-3 : tie.Need-returns-3
 returns-3 c = let s : tie.After-shape-at = c .before .before .before .before .before .before .before .before .before .before in
     said (sym (text s Pair (c .before .before .before .before .before .before .before .before .enum-told3 .given .1)))
-    (then (one _ _ _) (then (c .before .before .before .before .before .before .put-field2 .ensures) (then (c .before .before .put-field3 .ensures) none)))
+    (then (one _ _ _) (then (c .before .before .before .before .before .before .put-field .ensures) (then (c .before .before .put-field2 .ensures) none)))
 
 same-length-4 : tie.Need-same-length-4
 same-length-4 c = c .before .before .put-delay .kept .1 .1 .0 ∙ simp length-set
@@ -208,22 +151,18 @@ returns-4 c = let s : tie.After-shape-at = c .before .before .before .before .be
     said (sym (text s Wait (c .before .before .before .before .enum-told4 .given .1))) (then (one _ _ _) (then (c .before .before .put-delay .ensures) none))
 
 same-length-5 : tie.Need-same-length-5
-same-length-5 c = c .before .before .put-month .kept .1 .1 .0 ∙ c .before .before .before .before .before .before .put-field4 .kept .1 .1 .0 ∙ simp length-set
+same-length-5 c = c .before .before .put-index .kept .1 .1 .0 ∙ simp length-set
 
 returns-5 : tie.Need-returns-5
-returns-5 c = let s : tie.After-shape-at = c .before .before .before .before .before .before .before .before .before .before in
-    said (sym (text s Index (c .before .before .before .before .before .before .before .before .enum-told5 .given .1)))
-    (then (one _ _ _) (then (c .before .before .before .before .before .before .put-field4 .ensures) (then (c .before .before .put-month .ensures) none)))
+returns-5 c = let s : tie.After-shape-at = c .before .before .before .before .before .before in
+    said (sym (text s Index (c .before .before .before .before .enum-told5 .given .1))) (then (one _ _ _) (said (sym (index-parts (nodes s) (j s))) (c .before .before .put-index .ensures)))
 
 same-length-6 : tie.Need-same-length-6
-same-length-6 c = c .before .before .put-field6 .kept .1 .1 .0 ∙ c .before .before .before .before .before .before .put-field5 .kept .1 .1 .0
-    ∙ c .before .before .before .before .before .before .before .before .before .before .put-month2 .kept .1 .1 .0 ∙ simp length-set
+same-length-6 c = c .before .before .put-leaf .kept .1 .1 .0 ∙ simp length-set
 
 returns-6 : tie.Need-returns-6
-returns-6 c = let s : tie.After-shape-at = c .before .before .before .before .before .before .before .before .before .before .before .before .before .before in
-    said (sym (text s Leaf (c .before .before .before .before .before .before .before .before .before .before .before .before .enum-told6 .given .1)))
-    (then (one _ _ _) (then (c .before .before .before .before .before .before .before .before .before .before .put-month2 .ensures)
-    (then (c .before .before .before .before .before .before .put-field5 .ensures) (then (c .before .before .put-field6 .ensures) none))))
+returns-6 c = let s : tie.After-shape-at = c .before .before .before .before .before .before in
+    said (sym (text s Leaf (c .before .before .before .before .enum-told6 .given .1))) (then (one _ _ _) (said (sym (leaf-parts (nodes s) (j s))) (c .before .before .put-leaf .ensures)))
 
 pub put-row-spec : {M : Type 1} → statement M
 put-row-spec =
@@ -235,28 +174,20 @@ put-row-spec =
     add-place
     enum-told
     enum-told-2
+    add-put-figure
+    put-figure-requires
+    enum-told-3
     add-put-field
     put-field-requires
-    enum-told-3
     add-put-field-2
     put-field-requires-2
-    add-put-field-3
-    put-field-requires-3
     enum-told-4
     add-put-delay
     put-delay-requires
     enum-told-5
-    add-put-field-4
-    put-field-requires-4
-    add-put-month
-    put-month-requires
+    put-index-requires
     enum-told-6
-    add-put-month-2
-    put-month-requires-2
-    add-put-field-5
-    put-field-requires-5
-    add-put-field-6
-    put-field-requires-6
+    put-leaf-requires
     same-length
     returns
     same-length-2
