@@ -1,6 +1,8 @@
 // What a plan pays a pair in a month, and the month step.
 ghost use mathlib.Core.Path.{_≡_};
 ghost use mathlib.Core.Bool.{_&&_};
+ghost use Prim.Native.Nat.{_*_, _≤_};
+ghost use lib.ListN.{length};
 ghost use Rattle.language.specs.Calls.{intoBuffer, pairOk, paymentCall, stepCall};
 ghost use Rattle.language.specs.Text.Number.{between};
 ghost use Rattle.language.specs.Text.Trees.{Delay, Plan};
@@ -133,9 +135,10 @@ pub fn stepped(
     today: Month,
     pair: Pair,
     asked: bool,
+    next: &mut [i64],
     out: &mut [u8],
 ) -> Stepping
-    requires { ⌜ Stands (now nodes) count × (asked ≡ pairOk (pair .p) (pair .q)) ⌝ }
+    requires { ⌜ Stands (now nodes) count × (asked ≡ pairOk (pair .p) (pair .q)) × (5 * count ≤ length (now next)) ⌝ }
     ensures { λ r. ⌜ ((x : Plan Delay) → Standing (now (nodes .entry)) count x
         → (now (out .exit) ≡ intoBuffer (now (out .entry)) (steppedBy
         (givenOf (now (days .entry)) (span .h) (span .f) (now (factors .entry)) (now (bounds .entry)) (now (values .entry)))
@@ -158,7 +161,6 @@ pub fn stepped(
     match checking {
         Checking::Accepted(length, magnitude) => {
             places::place_rows(nodes, count, span);
-            let mut next = [0i64; 2560];
             let answer = steps::step_plan(
                 nodes,
                 values,
@@ -166,14 +168,14 @@ pub fn stepped(
                 span,
                 today,
                 pair,
-                &mut next,
+                next,
                 0,
                 0,
                 count,
                 32,
             );
             let pence = answer.pence;
-            let written = writer::write_text(&next, answer.next, 8_704, out);
+            let written = writer::write_text(next, answer.next, 8_704, out);
             match written {
                 Written::Bytes(bytes) => Stepping::Stepped(pence, bytes),
                 Written::NoRoom => Stepping::Refused(Refusal::NoRoom),
@@ -216,19 +218,42 @@ pub fn step(
     let asked = parties_ok(parties);
     let reading = text::read_plan(text, &mut nodes);
     match reading {
-        Reading::Nodes(count) => stepped(
-            &mut nodes,
-            count,
-            days,
-            Span { h: h, f: f },
-            factors,
-            bounds,
-            values,
-            Month(today),
-            parties,
-            asked,
-            out,
-        ),
+        Reading::Nodes(count) => {
+            // few rows need a short table only, which is cleared sooner
+            if count <= 128 {
+                let mut next = [0i64; 640];
+                stepped(
+                    &mut nodes,
+                    count,
+                    days,
+                    Span { h: h, f: f },
+                    factors,
+                    bounds,
+                    values,
+                    Month(today),
+                    parties,
+                    asked,
+                    &mut next,
+                    out,
+                )
+            } else {
+                let mut next = [0i64; 2560];
+                stepped(
+                    &mut nodes,
+                    count,
+                    days,
+                    Span { h: h, f: f },
+                    factors,
+                    bounds,
+                    values,
+                    Month(today),
+                    parties,
+                    asked,
+                    &mut next,
+                    out,
+                )
+            }
+        }
         Reading::Refused(refusal) => Stepping::Refused(refusal),
     }
 }

@@ -8,6 +8,7 @@ ghost use lib.IntN.{pos};
 ghost use Rattle.language.specs.Calls.{compileCall, cutCall, evaluateCall, over, pairOk};
 ghost use Rattle.language.specs.Text.Number.{between};
 ghost use Rattle.payoff.specs.Answers.{writingAnswer};
+ghost use Rattle.payoff.specs.Compiling.{PlanRows};
 ghost use Rattle.payoff.specs.Cut.{cutByte};
 ghost use Rattle.payoff.specs.Evaluating.{EvaluateIs, Stands, evaluatingAnswer, givenOf};
 ghost use Rattle.worths.specs.Answers.{worthAnswer};
@@ -78,6 +79,20 @@ pub fn cut(text: &[u8], out: &mut [u8]) -> Writing
     }
 }
 
+// The payoff of a plan that was read, compiled into a second table and written from there.
+fn compiled(nodes: &[i64; 2560], count: usize, next: &mut [i64], out: &mut [u8]) -> Writing
+    requires { ⌜ PlanRows (now nodes) count × (5 * count ≤ length (now next)) ⌝ }
+    ensures { λ r. ⌜ ((y : PlanRows (now (nodes .entry)) count) → (now (out .exit) ≡ compileCall (y .text) (now (out .entry)) .buffer)
+        × (writingAnswer r ≡ compileCall (y .text) (now (out .entry)) .answer)) ⌝ }
+{
+    let start = Months {
+        plain: 0,
+        digits: 0,
+    };
+    let n = compiles::compile_plan(nodes, next, 0, 0, count, start, 32);
+    told(writer::write_text(next, n, 53_760, out))
+}
+
 // The plan's payoff, written from the first byte of `out` on; a refusal leaves every byte as it was.
 pub fn compile(text: &[u8], out: &mut [u8]) -> Writing
     ensures { λ r. ⌜ (now (out .exit) ≡ compileCall (now (text .entry)) (now (out .entry)) .buffer)
@@ -87,13 +102,14 @@ pub fn compile(text: &[u8], out: &mut [u8]) -> Writing
     let reading = text::read_plan(text, &mut nodes);
     match reading {
         Reading::Nodes(count) => {
-            let mut next = [0i64; 2560];
-            let start = Months {
-                plain: 0,
-                digits: 0,
-            };
-            let n = compiles::compile_plan(&nodes, &mut next, 0, 0, count, start, 32);
-            told(writer::write_text(&next, n, 53_760, out))
+            // few rows need a short table only, which is cleared sooner
+            if count <= 128 {
+                let mut next = [0i64; 640];
+                compiled(&nodes, count, &mut next, out)
+            } else {
+                let mut next = [0i64; 2560];
+                compiled(&nodes, count, &mut next, out)
+            }
         }
         Reading::Refused(refusal) => Writing::Refused(refusal),
     }

@@ -23,28 +23,22 @@ place-rows-requires c κs =
     let e : length (c .before .before .before .before .accept .last .0) ≡ 2560 = search needs in
     (omega (arith, standing-rows (s .pre .0 .standing)), span-in w, rows-in w)
 
-slice-aggregate-step-plan : tie.Need-slice-aggregate-step-plan
-slice-aggregate-step-plan c = search needs
-
 step-plan-requires : tie.Need-step-plan-requires
 step-plan-requires c κs =
     let s = c .before .before .before .before .before .before .before .before .before .before in
     let a = s .args in
     let w = placing (a .pair .p) (a .pair .q) (c .before .before .before .before .before .before .before .accept .ensures) (s .pre .1) (c .before .before .before .before .before .checking .given .1) (s .pre .0 .standing) in
     let r = c .before .before .place-rows in
-    (today-is w, pair-is w, ready w (r .last .0) (r .ensures), omega (arith, standing-rows (s .pre .0 .standing)), stands w (r .last .0) (r .ensures), fine w (r .last .0) (r .ensures))
-
-slice-aggregate-write-text : tie.Need-slice-aggregate-write-text
-slice-aggregate-write-text c = search needs
+    (today-is w, pair-is w, ready w (r .last .0) (r .ensures), omega (arith, s .pre .2), stands w (r .last .0) (r .ensures), fine w (r .last .0) (r .ensures))
 
 write-text-requires : tie.Need-write-text-requires
 write-text-requires c κs =
     let s = c .before .before .before .before .before .before .before .before .before .before .before .before .before .before .before in
     let n = c .before .before .before .before .step-plan .ensures .1 in
-    let e : length (c .before .before .before .before .step-plan .last .1 .1 .1 .1 .1 .1 .0) ≡ 2560 = search needs in
+    let e = c .before .before .before .before .step-plan .kept .1 .1 .1 .1 .1 .1 .0 in
     let w = placing (s .args .pair .p) (s .args .pair .q) (c .before .before .before .before .before .before .before .before .before .before .before .before .accept .ensures) (s .pre .1) (c .before .before .before .before .before .before .before .before .before .before .checking .given .1) (s .pre .0 .standing) in
     let r = c .before .before .before .before .before .before .before .place-rows in
-    (omega (arith, standing-rows (s .pre .0 .standing), n), omega (arith, standing-rows (s .pre .0 .standing), n), text-short w (r .last .0) (r .ensures) _ _ _ (c .before .before .before .before .step-plan .ensures .2))
+    (omega (arith, s .pre .2, n, e), omega (arith, standing-rows (s .pre .0 .standing), n), text-short w (r .last .0) (r .ensures) _ _ _ (c .before .before .before .before .step-plan .ensures .2))
 
 enum-known-written : tie.Need-enum-known-written
 enum-known-written c = search needs
@@ -57,6 +51,9 @@ enum-known-checking-2 c = search needs
 
 same-length : tie.Need-same-length
 same-length c = search needs
+
+same-length-2 : tie.Need-same-length-2
+same-length-2 c = search needs
 
 returns : tie.Need-returns
 returns c x y =
@@ -71,8 +68,11 @@ returns c x y =
       with-bytes (k .result .pence) _ ∙ answer-is w (r .last .0) (r .ensures) _ _ _ (k .ensures .2) (a .out .now) v _ (ap writtenAnswer (sym (c .before .written .given .1)) ∙ o .ensures .1),
     )
 
-same-length-2 : tie.Need-same-length-2
-same-length-2 c = search needs
+same-length-3 : tie.Need-same-length-3
+same-length-3 c = search needs
+
+same-length-4 : tie.Need-same-length-4
+same-length-4 c = search needs
 
 returns-2 : tie.Need-returns-2
 returns-2 c x y =
@@ -102,15 +102,15 @@ stepped-spec =
     accept-requires
     enum-known-checking
     place-rows-requires
-    slice-aggregate-step-plan
     step-plan-requires
-    slice-aggregate-write-text
     write-text-requires
     enum-known-written
     enum-told
     enum-known-checking-2
     same-length
-    returns
     same-length-2
+    returns
+    same-length-3
+    same-length-4
     returns-2
     returns-3)

@@ -1,9 +1,9 @@
-use lib.ListN.{length}
-use mathlib.Core.Path.{_∙_, _≡_, ap, subst}
+use mathlib.Core.Path.{subst}
 use native.Mathlib.Omega.{arith}
 use Rattle.language.specs.Text.Letters.{planForm}
 use Rattle.language.specs.Text.Reader.{readText}
-use Rattle.payoff.proofs.CompileTexts.{compile-is, few, is-short, kept, ready, refusal-is}
+use Rattle.payoff.proofs.CompileTexts.{few, kept, refusal-is}
+use Rattle.payoff.specs.Compiling.{PlanRows}
 use Rattle.text.specs.ReadInto.{ReadInto}
 use borrow.Author.Needs.{needs}
 use Rattle.payoff.proofs.compile.Statement.{statement}
@@ -18,30 +18,23 @@ read-plan-requires c κs = search needs
 enum-known-reading : tie.Need-enum-known-reading
 enum-known-reading c = search needs
 
-slice-aggregate-compile-plan : tie.Need-slice-aggregate-compile-plan
-slice-aggregate-compile-plan c = search needs
+-- the plan that was read
+abbrev plan : (c : tie.After-known-told) → PlanRows (c .before .before .before .before .read-plan .last .1 .0) (c .before .reading .given .0 .0)
+plan c =
+    let text = c .before .before .before .before .before .before .before .before .args .text .now in
+    record { text = text; read = subst (ReadInto planForm (readText planForm text) (c .before .before .before .before .read-plan .last .1 .0)) (c .before .reading .given .1) (c .before .before .before .before .read-plan .ensures .0) }
 
-compile-plan-requires : tie.Need-compile-plan-requires
-compile-plan-requires c κs =
-    let a = c .before .before .before .before .before .before .before .before .before .before .args in
-    let p = c .before .before .before .before .before .before .read-plan in
-    let r = subst (ReadInto planForm (readText planForm (a .text .now)) (p .last .1 .0)) (c .before .before .before .reading .given .1) (p .ensures .0) in
-    (ready (a .text .now) (p .last .1 .0) _ r, omega (arith, few (a .text .now) (p .last .1 .0) _ r))
+slice-aggregate-compiled : tie.Need-slice-aggregate-compiled
+slice-aggregate-compiled c = search needs
 
-slice-aggregate-write-text : tie.Need-slice-aggregate-write-text
-slice-aggregate-write-text c = search needs
+compiled-requires : tie.Need-compiled-requires
+compiled-requires c κs = (plan (c .before .before .before .before), omega (arith, c .before .before .before .if1 .taken))
 
-write-text-requires : tie.Need-write-text-requires
-write-text-requires c κs =
-    let a = c .before .before .before .before .before .before .before .before .before .before .before .before .before .before .args in
-    let p = c .before .before .before .before .before .before .before .before .before .before .read-plan in
-    let r = subst (ReadInto planForm (readText planForm (a .text .now)) (p .last .1 .0)) (c .before .before .before .before .before .before .before .reading .given .1) (p .ensures .0) in
-    let n = c .before .before .before .compile-plan .ensures .0 in
-    let e : length (c .before .before .before .compile-plan .last .1 .0) ≡ 2560 = search needs in
-    (omega (arith, few (a .text .now) (p .last .1 .0) _ r, n), omega (arith, few (a .text .now) (p .last .1 .0) _ r, n), is-short (a .text .now) (p .last .1 .0) _ r (c .before .before .before .compile-plan .ensures .1))
+slice-aggregate-compiled-2 : tie.Need-slice-aggregate-compiled-2
+slice-aggregate-compiled-2 c = search needs
 
-told-requires : tie.Need-told-requires
-told-requires c κs = search needs
+compiled-requires-2 : tie.Need-compiled-requires-2
+compiled-requires-2 c κs = let y = plan (c .before .before .before .before) in (y, omega (arith, few (y .text) _ _ (y .read)))
 
 enum-known-reading-2 : tie.Need-enum-known-reading-2
 enum-known-reading-2 c = search needs
@@ -50,16 +43,16 @@ same-length : tie.Need-same-length
 same-length c = search needs
 
 returns : tie.Need-returns
-returns c =
-    let a = c .before .before .before .before .before .before .before .before .before .before .before .before .before .before .before .before .before .before .args in
-    let p = c .before .before .before .before .before .before .before .before .before .before .before .before .before .before .read-plan in
-    let r = subst (ReadInto planForm (readText planForm (a .text .now)) (p .last .1 .0)) (c .before .before .before .before .before .before .before .before .before .before .before .reading .given .1) (p .ensures .0) in
-    let o = c .before .before .before .write-text in
-    let e = compile-is (a .text .now) (p .last .1 .0) _ r (c .before .before .before .before .before .before .before .compile-plan .ensures .1) (a .out .now) in
-    (o .ensures .0 ∙ ap (λ u. u .buffer) e, c .told .ensures ∙ o .ensures .1 ∙ ap (λ u. u .answer) e)
+returns c = c .before .before .before .compiled .ensures (plan (c .before .before .before .before .before .before .before .before))
+
+same-length-2 : tie.Need-same-length-2
+same-length-2 c = search needs
 
 returns-2 : tie.Need-returns-2
-returns-2 c =
+returns-2 c = c .before .before .before .compiled2 .ensures (plan (c .before .before .before .before .before .before .before .before))
+
+returns-3 : tie.Need-returns-3
+returns-3 c =
     let a = c .before .before .before .before .before .before .before .before .args in
     let p = c .before .before .before .before .read-plan in
     let r = subst (ReadInto planForm (readText planForm (a .text .now)) (p .last .1 .0)) (c .before .reading2 .given .1) (p .ensures .0) in
@@ -72,12 +65,13 @@ compile-spec =
     slice-aggregate-read-plan
     read-plan-requires
     enum-known-reading
-    slice-aggregate-compile-plan
-    compile-plan-requires
-    slice-aggregate-write-text
-    write-text-requires
-    told-requires
+    slice-aggregate-compiled
+    compiled-requires
+    slice-aggregate-compiled-2
+    compiled-requires-2
     enum-known-reading-2
     same-length
     returns
-    returns-2)
+    same-length-2
+    returns-2
+    returns-3)
