@@ -1,5 +1,5 @@
 -- A row's text, part after part, as the code writes it.
-use Prim.Native.Nat.{_+_, suc, zero, ℕ}
+use Prim.Native.Nat.{_+_, ℕ}
 use lib.IntN.{pos, ℤ}
 use lib.ListN.{drop, length, length-append}
 use lib.Seq.{getD-drop}
@@ -7,7 +7,7 @@ use mathlib.Core.List.{List, [], _++_, _∷_, append-nil}
 use mathlib.Core.Path.{_∙_, _≡_, ap, refl, subst, sym}
 use native.Mathlib.Omega.{arith}
 use Rattle.language.specs.Text.Fields.{behind, joinWith}
-use Rattle.writer.specs.Shapes.{ShapeOf, commaAt, delayField, indexParts, leafParts, monthField, numberField, rowText, shapeFields}
+use Rattle.writer.specs.Shapes.{ShapeOf, delayField, indexParts, leafParts, monthField, numberField, rowText, shapeFields}
 use Rattle.writer.specs.Written.{fieldsOfRow, letterByte, slot}
 use Rattle.writer.specs.declared.rows.Shape.the-variants.{Bare, Index, Leaf, Number, Pair, Wait}
 use Rattle.writer.specs.declared.rows.Shape.{Shape}
@@ -47,15 +47,6 @@ module _ (nodes : List ℤ) (j : ℕ) where
       let l : letterByte (slot (drop j nodes) 0) ≡ b = ap letterByte (here 0 j (omega arith)) ∙ sym q in
       rw l (ap (λ (fs : List (List ℕ)). b ∷ behind 44 fs) (f .fields (drop j nodes))
       ∙ ap (λ (u : Shape). b ∷ behind 44 (shapeFields u (drop j nodes))) e ∙ ap (λ (r : List ℕ). b ∷ r) (parts-are t))
-
--- ---- the comma in front
-
-pub no-comma : (i : ℕ) → i ≡ 0 → commaAt i ≡ []
-no-comma i e = rw e
-
-pub comma : (i : ℕ) → (i ≡ 0 → ⊥) → commaAt i ≡ 44 ∷ []
-comma zero n = absurd (n refl)
-comma (suc i) n = refl
 
 -- ---- lengths
 

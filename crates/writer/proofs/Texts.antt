@@ -1,15 +1,15 @@
 -- The text of rows, row after row.
 use Prim.Native.Nat.{_*_, _+_, _-_, _<_, _≤_, suc, zero, ℕ}
 use lib.IntN.{ℤ}
-use lib.ListN.{drop, length, length-append}
+use lib.ListN.{drop, length, length-append, set}
 use lib.Seq.{drop-drop}
 use mathlib.Core.List.{List, [], _++_, _∷_, append-assoc, append-nil}
 use mathlib.Core.Path.{_∙_, _≡_, ap, refl, sym}
 use native.Mathlib.Omega.{arith}
 use Rattle.language.specs.Text.Fields.{behind, joinWith}
-use Rattle.writer.proofs.Puts.{none, room-first, room-next, said, then}
+use Rattle.writer.proofs.Puts.{kept, none, one, room-next, said, then}
 use Rattle.writer.specs.Put.{Put}
-use Rattle.writer.specs.Shapes.{commaAt, rowText}
+use Rattle.writer.specs.Shapes.{rowText}
 use Rattle.writer.specs.Written.{fieldsOfRow, fieldsOfRows, written}
 
 rows-split : (i m : ℕ) (nodes : List ℤ) → fieldsOfRows (i + m) nodes ≡ fieldsOfRows i nodes ++ fieldsOfRows m (drop (5 * i) nodes)
@@ -96,6 +96,11 @@ counted-all nodes (suc n) sum i s h _ = let e : i ≡ suc n = omega (arith, s .m
 
 -- ---- writing
 
+-- the comma in front of row i: the first has none
+abbrev pub commaAt : ℕ → List ℕ
+commaAt zero = []
+commaAt (suc i) = 44 ∷ []
+
 text-next : (i : ℕ) (nodes : List ℤ) → written (i + 1) nodes ≡ (written i nodes ++ commaAt i) ++ rowText (drop (5 * i) nodes)
 text-next zero nodes = text-one nodes ∙ ap (λ (t : List ℕ). (t ++ []) ++ rowText nodes) (sym (text-none 0 nodes refl))
 text-next (suc i) nodes = text-more (suc i) nodes (omega arith) ∙ sym (append-assoc (written (suc i) nodes) (44 ∷ []) (rowText (drop (5 * suc i) nodes)))
@@ -105,23 +110,29 @@ text-longer i count nodes h =
     let e : i + 1 + (count - (i + 1)) ≡ count = omega arith in
     omega (arith, ap length (ap (λ (k : ℕ). written k nodes) (sym e) ∙ text-split (i + 1) (count - (i + 1)) nodes (omega arith)), length-append (written (i + 1) nodes) (behind 44 (fieldsOfRows (count - (i + 1)) (drop (5 * (i + 1)) nodes))))
 
--- row i behind the rows before it
-module _ (nodes : List ℤ) (count i : ℕ) {old out : List ℕ} {place : ℕ} (h : i < count) (room : length (written count nodes) ≤ length old) (p : Put old out 0 place (written i nodes)) where
-  room-row : 0 + length ((written i nodes ++ commaAt i) ++ rowText (drop (5 * i) nodes)) ≤ length old
-  room-row = omega (arith, ap length (text-next i nodes), text-longer i count nodes h)
+-- row i behind the rows before it and a comma
+module _ (nodes : List ℤ) (count i : ℕ) {old out : List ℕ} {place : ℕ} (h : i < count) (room : length (written count nodes) ≤ length old) (p : Put old out 0 place (written i nodes ++ commaAt i)) where
+  pub row-room : place + length (rowText (drop (5 * i) nodes)) ≤ length out
+  row-room = room-next (rowText (drop (5 * i) nodes)) (let r : 0 + length ((written i nodes ++ commaAt i) ++ rowText (drop (5 * i) nodes)) ≤ length old = omega (arith, ap length (text-next i nodes), text-longer i count nodes h) in r) p
 
-  pub comma-room : place + length (commaAt i) ≤ length out
-  comma-room = room-next (commaAt i) (room-first 0 (length old) (written i nodes ++ commaAt i) (rowText (drop (5 * i) nodes)) room-row) p
+  pub row-put : {new : List ℕ} {end : ℕ} → Put out new place end (rowText (drop (5 * i) nodes)) → Put old new 0 end (written (i + 1) nodes)
+  row-put r = said (sym (text-next i nodes)) (then p r)
 
-  module _ {mid : List ℕ} {next : ℕ} (q : Put out mid place next (commaAt i)) where
-    pub row-room : next + length (rowText (drop (5 * i) nodes)) ≤ length mid
-    row-room = room-next (rowText (drop (5 * i) nodes)) room-row (then p q)
+-- the comma behind row i
+module _ (nodes : List ℤ) (count i : ℕ) {old out : List ℕ} {place : ℕ} (h : i + 1 ≤ count) (n : i + 1 ≡ count → ⊥) (room : length (written count nodes) ≤ length old) (p : Put old out 0 place (written (i + 1) nodes)) where
+  comma : commaAt (i + 1) ≡ 44 ∷ []
+  comma = let e : i + 1 ≡ suc i = omega arith in rw e
 
-    pub row-put : {new : List ℕ} {end : ℕ} → Put mid new next end (rowText (drop (5 * i) nodes)) → Put old new 0 end (written (i + 1) nodes)
-    row-put r = said (sym (text-next i nodes)) (then (then p q) r)
+  pub comma-room : place < length out
+  comma-room =
+      let l : i + 1 < count = omega (arith, n) in
+      omega (arith, text-longer (i + 1) count nodes l, ap length (text-next (i + 1) nodes), length-append (written (i + 1) nodes ++ commaAt (i + 1)) (rowText (drop (5 * (i + 1)) nodes)), length-append (written (i + 1) nodes) (commaAt (i + 1)), ap length comma, p .ends, kept p)
 
-pub text-starts : (nodes : List ℤ) {out : List ℕ} → Put out out 0 0 (written 0 nodes)
-text-starts nodes = said (sym (text-none 0 nodes refl)) none
+  pub comma-put : Put old (set out place 44) 0 (place + 1) (written (i + 1) nodes ++ commaAt (i + 1))
+  comma-put = then p (said (sym comma) (one out place 44))
 
-pub text-ends : (nodes : List ℤ) (count i : ℕ) {old out : List ℕ} {place : ℕ} → i ≤ count → count ≤ i → Put old out 0 place (written i nodes) → Put old out 0 place (written count nodes)
-text-ends nodes count i h l p = let e : i ≡ count = omega arith in rw e at p
+pub text-starts : (nodes : List ℤ) {out : List ℕ} → Put out out 0 0 (written 0 nodes ++ commaAt 0)
+text-starts nodes = said (sym (ap (λ (t : List ℕ). t ++ []) (text-none 0 nodes refl))) none
+
+pub text-ends : (nodes : List ℤ) (count i : ℕ) {old out : List ℕ} {place : ℕ} → i ≡ count → Put old out 0 place (written i nodes) → Put old out 0 place (written count nodes)
+text-ends nodes count i e p = rw e at p

@@ -1,5 +1,5 @@
 -- Which fields a row has, as the code tells them apart, and the texts of its parts.
-use Prim.Native.Nat.{_+_, suc, zero, ℕ}
+use Prim.Native.Nat.{_+_, ℕ}
 use lib.IntN.{ℤ}
 use mathlib.Core.List.{List, [], _++_, _∷_}
 use mathlib.Core.Path.{_≡_}
@@ -38,11 +38,6 @@ indexParts j nodes = numberField (slot nodes (j + 1)) ++ monthField (slot nodes 
 -- of the leaf at j: month and parties
 abbrev pub leafParts : ℕ → List ℤ → List ℕ
 leafParts j nodes = monthField (slot nodes (j + 1)) (slot nodes (j + 1 + 1)) ++ (numberField (slot nodes (j + 3)) ++ numberField (slot nodes (j + 4)))
-
--- the comma in front of row i: the first has none
-abbrev pub commaAt : ℕ → List ℕ
-commaAt zero = []
-commaAt (suc i) = byte "," ∷ []
 
 -- ---- shapes
 

@@ -32,19 +32,25 @@ pub fn text_length(nodes: &[i64], count: usize) -> usize
     sum - 1
 }
 
-// Writes the text of the first `count` rows from the first byte on.
+// Writes the text of the first `count` rows from the first byte on, a comma behind each row but the last.
 fn put_text(nodes: &[i64], count: usize, out: &mut [u8]) -> usize
     requires { ⌜ (5 * count ≤ length (now nodes)) × (length (written count (now nodes)) ≤ length (now out)) ⌝ }
     ensures { λ r. ⌜ Put (now (out .entry)) (now (out .exit)) 0 r (written count (now (nodes .entry))) ⌝ }
 {
+    if count == 0 {
+        return 0;
+    }
     let mut place: usize = 0;
     let mut i: usize = 0;
-    while i < count {
-        place = rows::put_comma(i, out, place);
+    loop {
         place = rows::put_row(nodes, 5 * i, out, place);
         i += 1;
+        if i == count {
+            return place;
+        }
+        out[place] = b',';
+        place += 1;
     }
-    place
 }
 
 // The text of the first `count` rows into `out`, or no byte of it where it does not fit. It has at most `most` bytes: a buffer that holds so many needs no count.

@@ -3,7 +3,7 @@ ghost use mathlib.Core.Path.{_≡_};
 ghost use Prim.Native.Nat.{_+_, _<_, _≤_};
 ghost use lib.ListN.{drop, length};
 ghost use Rattle.writer.specs.Put.{Put};
-ghost use Rattle.writer.specs.Shapes.{ShapeOf, commaAt, indexParts, leafParts, rowText};
+ghost use Rattle.writer.specs.Shapes.{ShapeOf, indexParts, leafParts, rowText};
 ghost use Rattle.writer.specs.Written.{letterByte, slot};
 use crate::digits;
 use crate::fields;
@@ -127,16 +127,4 @@ pub fn put_row(nodes: &[i64], j: usize, out: &mut [u8], at: usize) -> usize
         Shape::Index => put_index(nodes, j, out, place),
         Shape::Leaf => put_leaf(nodes, j, out, place),
     }
-}
-
-// Writes the comma in front of row i: the first has none.
-pub fn put_comma(i: usize, out: &mut [u8], at: usize) -> usize
-    requires { ⌜ at + length (commaAt i) ≤ length (now out) ⌝ }
-    ensures { λ r. ⌜ Put (now (out .entry)) (now (out .exit)) at r (commaAt i) ⌝ }
-{
-    if i == 0 {
-        return at;
-    }
-    out[at] = b',';
-    at + 1
 }
