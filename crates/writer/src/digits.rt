@@ -150,7 +150,7 @@ pub fn put_by_pairs(pairs: &[u8; 200], n: u64, out: &mut [u8], at: usize) -> usi
 
 // ---- the same where the caller holds no table
 
-// Writes the digits of a number below 10,000, which needs none.
+// Writes the digits of a number below 10,000. Short numbers are written sooner than a table is laid out.
 pub fn put_short(n: u32, out: &mut [u8], at: usize) -> usize
     requires { ⌜ (n < 10_000) × (at + length (printNat n) ≤ length (now out)) ⌝ }
     ensures { λ r. ⌜ Put (now (out .entry)) (now (out .exit)) at r (printNat n) ⌝ }
@@ -160,6 +160,27 @@ pub fn put_short(n: u32, out: &mut [u8], at: usize) -> usize
     } else {
         let next = put_to_two(n / 100, out, at);
         put_two(n % 100, out, next)
+    }
+}
+
+fn put_last_four(n: u32, out: &mut [u8], at: usize) -> usize
+    requires { ⌜ (n < 10_000) × (at + 4 ≤ length (now out)) ⌝ }
+    ensures { λ r. ⌜ Put (now (out .entry)) (now (out .exit)) at r (four n) ⌝ }
+{
+    let next = put_two(n / 100, out, at);
+    put_two(n % 100, out, next)
+}
+
+// Writes the digits of a number below 100,000,000.
+fn put_medium(n: u32, out: &mut [u8], at: usize) -> usize
+    requires { ⌜ (n < 100_000_000) × (at + length (printNat n) ≤ length (now out)) ⌝ }
+    ensures { λ r. ⌜ Put (now (out .entry)) (now (out .exit)) at r (printNat n) ⌝ }
+{
+    if n < 10_000 {
+        put_short(n, out, at)
+    } else {
+        let next = put_short(n / 10_000, out, at);
+        put_last_four(n % 10_000, out, next)
     }
 }
 
@@ -178,8 +199,8 @@ pub fn put_digits(n: u64, out: &mut [u8], at: usize) -> usize
     requires { ⌜ (n ≤ 2 ^ 63) × (at + length (printNat n) ≤ length (now out)) ⌝ }
     ensures { λ r. ⌜ Put (now (out .entry)) (now (out .exit)) at r (printNat n) ⌝ }
 {
-    if n < 10_000 {
-        put_short(n as u32, out, at)
+    if n < 100_000_000 {
+        put_medium(n as u32, out, at)
     } else {
         put_long(n, out, at)
     }
