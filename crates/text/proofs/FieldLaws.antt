@@ -228,3 +228,15 @@ module _ (text : List ℕ) (at : ℕ) where
 pub are-tried : (cs : List Class) (text : List ℕ) (at : ℕ) (r : Slots) → SlotsAre cs text at r → SlotsTried cs text at r
 are-tried cs text at (Filled a b c d next) f = f
 are-tried cs text at Unfilled f = tt
+
+-- the same fields, from the machine's numbers
+pub four-same : (cs : List Class) (text : List ℕ) (at : ℕ) (a b c d : ℤ) (next : ℕ) → Four cs text at a b c d next
+    → (w x y z : ℤ) → w ≡ a → x ≡ b → y ≡ c → z ≡ d → Four cs text at w x y z next
+four-same cs text at a b c d next f w x y z p q r s = record {
+  values = f .values;
+  all = f .all;
+  first = f .first ∙ sym p;
+  second = f .second ∙ sym q;
+  third = f .third ∙ sym r;
+  fourth = f .fourth ∙ sym s;
+}

@@ -17,9 +17,9 @@ use crate::letters::bare_letter;
 use crate::slots::Slots;
 use crate::slots::quick_divisor;
 use crate::slots::quick_figure;
+use crate::slots::quick_reading;
+use crate::slots::quick_transfer;
 use crate::slots::read_one;
-use crate::slots::reading_digits;
-use crate::slots::transfer_digits;
 use crate::slots::two_digits;
 use crate::trees::put_row;
 
@@ -117,19 +117,19 @@ fn payoff_row(text: &[u8], at: usize, kind: u8, nodes: &mut [i64], count: usize)
     match letter {
         b'O' => {
             if kind == AMOUNT {
-                return fill_row(reading_digits(text, at + 2), text, at, nodes, count, 0);
+                return fill_row(quick_reading(text, at + 2), text, at, nodes, count, 0);
             }
             Quick::Other
         }
         b'F' => {
             if kind == ROOT {
-                return fill_row(transfer_digits(text, at + 2), text, at, nodes, count, 0);
+                return fill_row(quick_transfer(text, at + 2), text, at, nodes, count, 0);
             }
             Quick::Other
         }
         b'H' => {
             if kind == ROOT {
-                return fill_row(transfer_digits(text, at + 2), text, at, nodes, count, 0);
+                return fill_row(quick_transfer(text, at + 2), text, at, nodes, count, 0);
             }
             Quick::Other
         }

@@ -305,6 +305,28 @@ pub fn transfer_digits(text: &[u8], at: usize) -> Slots
     }
 }
 
+// A label and a month: most have one digit each.
+pub fn quick_reading(text: &[u8], at: usize) -> Slots
+    requires { ⌜ at + 4 ≤ length (now text) ⌝ }
+    ensures { λ r. ⌜ SlotsTried (classOf 4 ∷ month ∷ []) (now (text .entry)) at r ⌝ }
+{
+    match reading_digits(text, at) {
+        Slots::Filled { a, b, c, d, next } => Slots::Filled { a, b, c, d, next },
+        Slots::Unfilled => after_field(text, at, LABEL, MONTH, NONE),
+    }
+}
+
+// A month and two parties: most have one digit each.
+pub fn quick_transfer(text: &[u8], at: usize) -> Slots
+    requires { ⌜ at ≤ length (now text) + 1 ⌝ }
+    ensures { λ r. ⌜ SlotsTried (month ∷ classesOfTwo 3 3) (now (text .entry)) at r ⌝ }
+{
+    match transfer_digits(text, at) {
+        Slots::Filled { a, b, c, d, next } => Slots::Filled { a, b, c, d, next },
+        Slots::Unfilled => after_month(text, at, PARTY, PARTY),
+    }
+}
+
 // The fields of any node.
 pub fn read_fields(text: &[u8], at: usize, first: u8, second: u8, third: u8) -> Slots
     requires { ⌜ at ≤ length (now text) + 1 ⌝ }

@@ -10,17 +10,17 @@ use Rattle.text.proofs.quick.payoff_row.Tie as tie
 use Rattle.text.proofs.quick.payoff_row.Reads as reads
 use Rattle.text.proofs.quick.payoff_row.Lts as lts
 use Rattle.text.proofs.quick.fill_row.Reads as fill-row-reads
-use Rattle.text.proofs.slots.reading_digits.Reads as reading-digits-reads
-use Rattle.text.proofs.slots.transfer_digits.Reads as transfer-digits-reads
+use Rattle.text.proofs.slots.quick_reading.Reads as quick-reading-reads
+use Rattle.text.proofs.slots.quick_transfer.Reads as quick-transfer-reads
 
 shared-slice-read-letter : tie.Need-shared-slice-read-letter
 shared-slice-read-letter c = search needs
 
-add-reading-digits : tie.Need-add-reading-digits
-add-reading-digits c = search needs
+add-quick-reading : tie.Need-add-quick-reading
+add-quick-reading c = search needs
 
-reading-digits-requires : tie.Need-reading-digits-requires
-reading-digits-requires c κs = search needs
+quick-reading-requires : tie.Need-quick-reading-requires
+quick-reading-requires c κs = search needs
 
 fill-row-requires : tie.Need-fill-row-requires
 fill-row-requires c κs = search needs
@@ -33,13 +33,13 @@ unfolding classesOfThree classesOfTwo classOf
 returns c =
     let a = c .before .before .before .before .before .before .before .before .args in
     filled-opens (a .text .now) (a .at) (a .kind) (omega (arith, c .before .before .before .before .before .before .before .before .pre .0)) (c .before .before .before .before .before .before .before .before .pre .1) payoffForm (a .nodes .now) (c .before .fill-row .last .1 .1 .1 .0) (a .count) 79 (c .before .before .before .before .before .match .keys1) (λ z. omega arith)
-    (commonShape 2 4 7 0 0) reading-shape (λ z. omega arith) (sym (c .before .before .before .before .if1 .taken)) 0 refl refl (c .before .before .before .reading-digits .result) (c .before .before .before .reading-digits .ensures) (c .before .fill-row .result) (c .before .fill-row .ensures)
+    (commonShape 2 4 7 0 0) reading-shape (λ z. omega arith) (sym (c .before .before .before .before .if1 .taken)) 0 refl refl (c .before .before .before .quick-reading .result) (c .before .before .before .quick-reading .ensures) (c .before .fill-row .result) (c .before .fill-row .ensures)
 
-add-transfer-digits : tie.Need-add-transfer-digits
-add-transfer-digits c = search needs
+add-quick-transfer : tie.Need-add-quick-transfer
+add-quick-transfer c = search needs
 
-transfer-digits-requires : tie.Need-transfer-digits-requires
-transfer-digits-requires c κs = search needs
+quick-transfer-requires : tie.Need-quick-transfer-requires
+quick-transfer-requires c κs = search needs
 
 fill-row-requires-2 : tie.Need-fill-row-requires-2
 fill-row-requires-2 c κs = search needs
@@ -52,13 +52,13 @@ unfolding classesOfThree classesOfTwo classOf
 returns-2 c =
     let a = c .before .before .before .before .before .before .before .before .args in
     filled-opens (a .text .now) (a .at) (a .kind) (omega (arith, c .before .before .before .before .before .before .before .before .pre .0)) (c .before .before .before .before .before .before .before .before .pre .1) payoffForm (a .nodes .now) (c .before .fill-row2 .last .1 .1 .1 .0) (a .count) 70 (c .before .before .before .before .before .match .keys2) (λ z. omega arith)
-    (commonShape 1 7 3 3 0) future-shape (λ z. omega arith) (sym (c .before .before .before .before .if2 .taken)) 0 refl refl (c .before .before .before .transfer-digits .result) (c .before .before .before .transfer-digits .ensures) (c .before .fill-row2 .result) (c .before .fill-row2 .ensures)
+    (commonShape 1 7 3 3 0) future-shape (λ z. omega arith) (sym (c .before .before .before .before .if2 .taken)) 0 refl refl (c .before .before .before .quick-transfer .result) (c .before .before .before .quick-transfer .ensures) (c .before .fill-row2 .result) (c .before .fill-row2 .ensures)
 
-add-transfer-digits-2 : tie.Need-add-transfer-digits-2
-add-transfer-digits-2 c = search needs
+add-quick-transfer-2 : tie.Need-add-quick-transfer-2
+add-quick-transfer-2 c = search needs
 
-transfer-digits-requires-2 : tie.Need-transfer-digits-requires-2
-transfer-digits-requires-2 c κs = search needs
+quick-transfer-requires-2 : tie.Need-quick-transfer-requires-2
+quick-transfer-requires-2 c κs = search needs
 
 fill-row-requires-3 : tie.Need-fill-row-requires-3
 fill-row-requires-3 c κs = search needs
@@ -71,7 +71,7 @@ unfolding classesOfThree classesOfTwo classOf
 returns-3 c =
     let a = c .before .before .before .before .before .before .before .before .args in
     filled-opens (a .text .now) (a .at) (a .kind) (omega (arith, c .before .before .before .before .before .before .before .before .pre .0)) (c .before .before .before .before .before .before .before .before .pre .1) payoffForm (a .nodes .now) (c .before .fill-row3 .last .1 .1 .1 .0) (a .count) 72 (c .before .before .before .before .before .match .keys3) (λ z. omega arith)
-    (commonShape 1 7 3 3 0) cut-shape (λ z. omega arith) (sym (c .before .before .before .before .if3 .taken)) 0 refl refl (c .before .before .before .transfer-digits2 .result) (c .before .before .before .transfer-digits2 .ensures) (c .before .fill-row3 .result) (c .before .fill-row3 .ensures)
+    (commonShape 1 7 3 3 0) cut-shape (λ z. omega arith) (sym (c .before .before .before .before .if3 .taken)) 0 refl refl (c .before .before .before .quick-transfer2 .result) (c .before .before .before .quick-transfer2 .ensures) (c .before .fill-row3 .result) (c .before .fill-row3 .ensures)
 
 returns-4 : tie.Need-returns-4
 returns-4 c = search needs
@@ -90,18 +90,18 @@ payoff-row-spec =
     tie.close
     (tie.spec
     shared-slice-read-letter
-    add-reading-digits
-    reading-digits-requires
+    add-quick-reading
+    quick-reading-requires
     fill-row-requires
     same-length
     returns
-    add-transfer-digits
-    transfer-digits-requires
+    add-quick-transfer
+    quick-transfer-requires
     fill-row-requires-2
     same-length-2
     returns-2
-    add-transfer-digits-2
-    transfer-digits-requires-2
+    add-quick-transfer-2
+    quick-transfer-requires-2
     fill-row-requires-3
     same-length-3
     returns-3
