@@ -30,6 +30,7 @@ kidsOf h = h .kid1 + 4 * h .kid2 + 16 * h .kid3
 
 module _ {P : Type 0} (form : Form P) where
   module _ (left : ℕ) where
+    -- a node was opened, and stands in the table as row count
     pub record RowBegun (kind : Kind) (text : List ℕ) (at : ℕ) (old new : List ℤ) (count next kids : ℕ) : Type 0 where
       pub head : Head
       pub begun : Begun form left kind text at count head

@@ -126,6 +126,7 @@ pub fn read_rows(form: TextForm, text: &[u8], nodes: &mut [i64]) -> Read
         match row {
             Row::Open { next, kids } => {
                 let mut kind = kids % 4;
+                // a leaf
                 if kind == NONE {
                     count += 1;
                     if waiting == 0 {
@@ -135,6 +136,7 @@ pub fn read_rows(form: TextForm, text: &[u8], nodes: &mut [i64]) -> Read
                     put_link(nodes, entry / 2048, entry / 16 % 2, count);
                     left = entry / 32 % 64;
                     kind = (entry % 4) as u8;
+                    // 4 and more where a third child is still to come
                     if entry % 16 < 4 {
                         waiting -= 1;
                     } else {
