@@ -1,5 +1,5 @@
 -- A bound's range: no further from zero than the bound.
-use Prim.Native.Nat.{suc, zero, ℕ}
+use Prim.Native.Nat.{_≤_, suc, zero, ℕ}
 use borrow.Author.Tests.{le-leb, leb-false, leb-true, lt-leb}
 use lib.Dec.{leb}
 use lib.IntN.{_-ℤ_, natAbs, negsuc, negℤ, pos, subℕ, ℤ}
@@ -15,6 +15,7 @@ use Rattle.integers.proofs.Solver.{eq-parts, sub-parts}
 use Rattle.language.specs.Limits.{maxAmount}
 use Rattle.language.specs.Text.Number.{between}
 use Rattle.tables.proofs.Spans.{both-true}
+use Rattle.tables.specs.Words.{Narrow}
 
 nearer-below : (n m : ℕ) (b : Bool) → leb n m ≡ b → leb (suc n) (suc m) ≡ b && true
 nearer-below n m true e = le-leb (suc n) (suc m) (omega (arith, leb-true n m e))
@@ -36,6 +37,13 @@ opposite-ordered (pos zero) e = refl
 opposite-ordered (pos (suc m)) e = refl
 opposite-ordered (negsuc m) e = absurd (false≢true e)
 
+opposite-near : (b : ℤ) → between (pos 0) (pos maxAmount) b ≡ true → (natAbs (negℤ b) ≤ maxAmount) × (natAbs b ≤ maxAmount)
+opposite-near (pos zero) e = (omega arith, omega arith)
+opposite-near (pos (suc m)) e =
+    let h = leb-true (suc m) maxAmount (both-true (leb 0 (suc m)) (leb (suc m) maxAmount) e .1) in
+    (omega (arith, h), h)
+opposite-near (negsuc m) e = absurd (false≢true e)
+
 negated : (b : ℤ) → between (pos 0) (pos maxAmount) b ≡ true → pos 0 -ℤ b ≡ negℤ b
 negated (pos zero) e = refl
 negated (pos (suc m)) e = eq-parts (subℕ 0 (suc m)) (negsuc m) (omega (arith, sub-parts 0 (suc m)))
@@ -56,5 +64,5 @@ module _ (b : ℤ) (f : SFits w64 b) (e : between (pos 0) (pos maxAmount) b ≡ 
   pub opposite-reads : rd (pos 0 -ℤ rd b) ≡ negℤ b
   opposite-reads = toZ-ofZ opposite-fits ∙ opposite-is
 
-  pub in-order : leZ (rd (pos 0 -ℤ rd b)) (rd b) ≡ true
-  in-order = rw (opposite-reads, toZ-ofZ f) (opposite-ordered b e)
+  pub narrow : Narrow (rd (pos 0 -ℤ rd b)) (rd b)
+  narrow = rw (opposite-reads, toZ-ofZ f) (opposite-ordered b e, opposite-near b e .0, opposite-near b e .1)

@@ -1,5 +1,6 @@
 -- A test of every element of a list, from one place on.
 use Prim.Native.Nat.{_*_, _+_, _-_, _<_, _≤_, ℕ}
+use lib.Bits.{bitOr}
 use lib.Dec.{leb}
 use lib.IntN.{natAbs, negℤ, pos, ℤ}
 use lib.ListN.{drop, drop-of-length-le, getD, length, take}
@@ -7,59 +8,32 @@ use lib.Seq.{drop-cons, drop-drop}
 use mathlib.Core.Bool.{Bool, _&&_, false, true}
 use mathlib.Core.List.{List, [], _∷_}
 use mathlib.Core.Path.{_∙_, _≡_, ap, ap₂, refl, sym}
-use mir.Facts.{toZ-ofZ}
-use mir.Syntax.{w64}
-use mir.Val.{SFits}
 use native.Mathlib.Nat.{mul-le-mul-right}
 use native.Mathlib.Numerals.{add-one}
 use native.Mathlib.Omega.{arith}
-use Rattle.integers.proofs.Locals.{rd}
 use Rattle.language.specs.Limits.{maxAmount}
 use Rattle.language.specs.Rules.Table.{allOf, valuesBounded}
 use Rattle.language.specs.Text.Number.{between}
 use Rattle.tables.proofs.Bounds.{nearer}
-
--- a test of a number as a local holds it
-pub tested : (p : ℤ → Bool) (x : ℤ) {r b : Bool} → SFits w64 x → r ≡ p (rd x) → r ≡ b → p x ≡ b
-tested p x f e t = sym (e ∙ ap p (toZ-ofZ f)) ∙ t
+use Rattle.tables.proofs.Words.{clear, joined}
 
 module _ (p : ℤ → Bool) (xs : List ℤ) where
   all-next : (i : ℕ) → i < length xs → allOf p (drop i xs) ≡ p (getD xs i (pos 0)) && allOf p (drop (i + 1) xs)
   all-next i h = ap (allOf p) (drop-cons xs i (pos 0) h) ∙ rw (add-one i) refl
 
-  pub all-passed : (i : ℕ) → i < length xs → p (getD xs i (pos 0)) ≡ true → allOf p (drop i xs) ≡ allOf p (drop (i + 1) xs)
-  all-passed i h e = all-next i h ∙ rw e refl
-
-  pub all-failed : (i : ℕ) → i < length xs → p (getD xs i (pos 0)) ≡ false → allOf p (drop i xs) ≡ false
-  all-failed i h e = all-next i h ∙ rw e refl
-
-  -- four in a row from i on: three that pass, or the first that fails
-  pub two-passed : (i : ℕ) → i + 2 ≤ length xs → p (getD xs i (pos 0)) ≡ true → p (getD xs (i + 1) (pos 0)) ≡ true → allOf p (drop i xs) ≡ allOf p (drop (i + 2) xs)
-  two-passed i h e₀ e₁ =
-      let n : i + 1 + 1 ≡ i + 2 = omega arith in
-      all-passed i (omega arith) e₀ ∙ all-passed (i + 1) (omega arith) e₁ ∙ ap (λ k. allOf p (drop k xs)) n
-
-  pub second-failed : (i : ℕ) → i + 2 ≤ length xs → p (getD xs i (pos 0)) ≡ true → p (getD xs (i + 1) (pos 0)) ≡ false → allOf p (drop i xs) ≡ false
-  second-failed i h e₀ e₁ = all-passed i (omega arith) e₀ ∙ all-failed (i + 1) (omega arith) e₁
-
-  pub third-failed : (i : ℕ) → i + 4 ≤ length xs → p (getD xs i (pos 0)) ≡ true → p (getD xs (i + 1) (pos 0)) ≡ true → p (getD xs (i + 2) (pos 0)) ≡ false → allOf p (drop i xs) ≡ false
-  third-failed i h e₀ e₁ e₂ = two-passed i (omega arith) e₀ e₁ ∙ all-failed (i + 2) (omega arith) e₂
-
-  pub three-passed : (i : ℕ) {r : Bool} → i + 4 ≤ length xs → p (getD xs i (pos 0)) ≡ true → p (getD xs (i + 1) (pos 0)) ≡ true → p (getD xs (i + 2) (pos 0)) ≡ true → p (getD xs (i + 3) (pos 0)) ≡ r
-      → allOf p (drop i xs) ≡ r && allOf p (drop (i + 4) xs)
-  three-passed i {r} h e₀ e₁ e₂ e₃ =
-      let n : i + 2 + 1 ≡ i + 3 = omega arith in
-      let m : i + 3 + 1 ≡ i + 4 = omega arith in
-      two-passed i (omega arith) e₀ e₁ ∙ all-passed (i + 2) (omega arith) e₂ ∙ ap (λ k. allOf p (drop k xs)) n ∙ all-next (i + 3) (omega arith) ∙ rw (e₃, m) refl
-
-  -- the k-th four, as one test r
-  pub four-passed : (k : ℕ) {r : Bool} → allOf p (drop (4 * k) xs) ≡ r && allOf p (drop (4 * k + 4) xs) → r ≡ true → allOf p (drop (4 * k) xs) ≡ allOf p (drop (4 * (k + 1)) xs)
-  four-passed k h e =
-      let n : 4 * k + 4 ≡ 4 * (k + 1) = omega arith in
-      h ∙ ap (λ r. r && allOf p (drop (4 * k + 4) xs)) e ∙ ap (λ i. allOf p (drop i xs)) n
-
-  pub four-failed : (k : ℕ) {r : Bool} → allOf p (drop (4 * k) xs) ≡ r && allOf p (drop (4 * k + 4) xs) → r ≡ false → allOf p (drop (4 * k) xs) ≡ false
-  four-failed k h e = h ∙ ap (λ r. r && allOf p (drop (4 * k + 4) xs)) e
+  -- the words that stand for the numbers before i, joined with the two for the number at i
+  pub all-joined : (i below above y z : ℕ) → i < length xs → allOf p xs ≡ (clear below && clear above) && allOf p (drop i xs)
+      → p (getD xs i (pos 0)) ≡ clear y && clear z → allOf p xs ≡ (clear (bitOr below y) && clear (bitOr above z)) && allOf p (drop (i + 1) xs)
+  all-joined i below above y z h e n =
+      let rest = allOf p (drop (i + 1) xs) in
+      e ∙ ap (λ r. (clear below && clear above) && r) (all-next i h ∙ ap (λ r. r && rest) n) ∙ turned (clear below) (clear above) (clear y) (clear z) rest
+      ∙ ap₂ (λ a b. (a && b) && rest) (sym (joined below y)) (sym (joined above z))
+    where
+      turned : (a b c d r : Bool) → (a && b) && ((c && d) && r) ≡ ((a && c) && (b && d)) && r
+      turned true true c d r = refl
+      turned true false true d r = refl
+      turned true false false d r = refl
+      turned false b c d r = refl
 
   pub all-done : (i : ℕ) → length xs ≤ i → allOf p (drop i xs) ≡ true
   all-done i h = ap (allOf p) (drop-of-length-le xs h)

@@ -1,11 +1,12 @@
 -- A number's 64 bits, and a range tested by one comparison of them.
 use Prim.Native.Nat.{_%_, _+_, _-_, _<_, _≤_, suc, ℕ}
-use borrow.Author.Tests.{le-leb, lt-leb}
+use borrow.Author.Tests.{le-leb, leb-false, leb-true, lt-leb}
+use lib.Bits.{and-le-r, bitOr, or-add-and, or-comm, or-lt}
 use lib.Dec.{leb}
 use lib.IntN.{_+ℤ_, natAbs, negsuc, pos, ℤ}
 use lib.Signed.{leZ, ltZ}
 use mathlib.Core.Bool.{Bool, _&&_, cond, false, true}
-use mathlib.Core.Path.{_∙_, _≡_, ap, refl}
+use mathlib.Core.Path.{_∙_, _≡_, ap, refl, sym}
 use mir.Facts.{toZ-ofZ}
 use mir.Syntax.{w64}
 use mir.Val.{Fits, SFits}
@@ -15,7 +16,7 @@ use Rattle.integers.proofs.Negation.{add-reads}
 use Rattle.integers.proofs.Solver.{_⊕_, dn, lit, ring, up, var}
 use Rattle.integers.proofs.Tests.{le-false, le-true, lt-false, lt-true}
 use Rattle.language.specs.Text.Number.{between}
-use Rattle.tables.specs.Words.{wordOf}
+use Rattle.tables.specs.Words.{Narrow, wordOf}
 
 -- ---- a number below zero, lifted by 2 ^ 63 and once more
 lifted : (x : ℤ) → SFits w64 x → ltZ x (pos 0) ≡ true → x +ℤ pos 1 +ℤ pos 9223372036854775807 ≡ pos (9223372036854775808 - natAbs x)
@@ -83,12 +84,63 @@ compared low high x r w f g k true e h true d = le-leb r w (omega (arith, le-tru
 compared low high x r w f g k true e h false d = lt-leb r w (omega (arith, le-false x high d))
 compared low high x r w f g k false e h d l = lt-leb r w (omega (arith, fits-below high f, fits-above x g))
 
--- the bits are those that the code formed of locals
-pub within : (low high x : ℤ) {l m n r w : ℕ} → SFits w64 low → SFits w64 high → SFits w64 x → leZ low high ≡ true
-    → l ≡ wordOf (rd low) → m ≡ wordOf (rd high) → n ≡ wordOf (rd x)
-    → w < 18446744073709551616 → (w + l) % 18446744073709551616 ≡ m → r < 18446744073709551616 → (r + l) % 18446744073709551616 ≡ n → leb r w ≡ between low high x
-within low high x {l} {m} {n} {r} {w} f g k e lw mw nw wb we rb re =
-    let a = lw ∙ ap wordOf (toZ-ofZ f) in
-    let p = apart low high w f g wb (rw a at we ∙ mw ∙ ap wordOf (toZ-ofZ g)) true e in
-    let q = apart low x r f k rb (rw a at re ∙ nw ∙ ap wordOf (toZ-ofZ k)) (leZ low x) refl in
-    compared low high x r w g k (omega (arith, p)) (leZ low x) refl q (leZ x high) refl
+-- ---- a range's first word, and the room above its last up to the greatest word whose first bit is 0
+pub record Ends (low high : ℤ) (first room : ℕ) : Type 0 where
+  pub lowFits : SFits w64 low
+  pub highFits : SFits w64 high
+  pub firstIs : first ≡ wordOf low
+  pub roomSmall : room ≤ 9223372036854775807
+  pub across : 9223372036854775807 - room + up low + dn high ≡ up high + dn low
+
+up-near : (x : ℤ) → up x ≤ natAbs x
+up-near (pos a) = omega arith
+up-near (negsuc a) = omega arith
+
+dn-near : (x : ℤ) → dn x ≤ natAbs x
+dn-near (pos a) = omega arith
+dn-near (negsuc a) = omega arith
+
+-- the words are those that the code formed of the ends
+module _ (low high : ℤ) {l m w : ℕ} (f : SFits w64 low) (g : SFits w64 high) (n : Narrow low high) (lw : l ≡ wordOf (rd low)) (mw : m ≡ wordOf (rd high)) (wb : w < 18446744073709551616) (we : (w + l) % 18446744073709551616 ≡ m) where
+  width : w + up low + dn high ≡ up high + dn low
+  width =
+      let p = apart low high w f g wb (rw (lw ∙ ap wordOf (toZ-ofZ f)) at we ∙ mw ∙ ap wordOf (toZ-ofZ g)) true (n .0) in
+      omega (arith, p)
+
+  pub width-small : w ≤ 9223372036854775807
+  width-small = omega (arith, width, up-near high, dn-near low, n .1, n .2)
+
+  pub ends : Ends low high l (9223372036854775807 - w)
+  ends = record { lowFits = f; highFits = g; firstIs = lw ∙ ap wordOf (toZ-ofZ f); roomSmall = omega arith; across = omega (arith, width, width-small) }
+
+-- a word whose first bit is 0
+abbrev pub clear : ℕ → Bool
+clear a = leb a 9223372036854775807
+
+-- y at most w, by the first bits of y and of y and the room above w
+halves : (y z w room : ℕ) → y < 18446744073709551616 → room ≤ 9223372036854775807 → w ≡ 9223372036854775807 - room → z ≡ (y + room) % 18446744073709551616
+    → (a b : Bool) → clear y ≡ a → clear z ≡ b → leb y w ≡ a && b
+halves y z w room h r e s true true p q = le-leb y w (omega (arith, leb-true y 9223372036854775807 p, leb-true z 9223372036854775807 q))
+halves y z w room h r e s true false p q = lt-leb y w (omega (arith, leb-true y 9223372036854775807 p, leb-false z 9223372036854775807 q))
+halves y z w room h r e s false b p q = lt-leb y w (omega (arith, leb-false y 9223372036854775807 p))
+
+-- a number lies in the range if neither word's first bit is set
+pub within : {low high : ℤ} {first room : ℕ} → Ends low high first room → (x : ℤ) {n y z : ℕ} → SFits w64 x
+    → n ≡ wordOf (rd x) → y < 18446744073709551616 → (y + first) % 18446744073709551616 ≡ n → z ≡ (y + room) % 18446744073709551616
+    → between low high x ≡ clear y && clear z
+within {low} {high} {first} {room} k x {n} {y} {z} f nw yb ye ze =
+    let q = apart low x y (k .lowFits) f yb (rw (k .firstIs) at ye ∙ nw ∙ ap wordOf (toZ-ofZ f)) (leZ low x) refl in
+    sym (compared low high x y (9223372036854775807 - room) (k .highFits) f (k .across) (leZ low x) refl q (leZ x high) refl)
+    ∙ halves y z (9223372036854775807 - room) room yb (k .roomSmall) refl ze _ _ refl refl
+
+-- ---- two words joined: the first bit is set where it is in one of them
+least-joined : (a b : ℕ) → a ≤ bitOr a b
+least-joined a b = omega (arith, or-add-and a b, and-le-r a b)
+
+joined-by : (a b : ℕ) (p q : Bool) → clear a ≡ p → clear b ≡ q → clear (bitOr a b) ≡ p && q
+joined-by a b true true e h = le-leb (bitOr a b) 9223372036854775807 (omega (arith, or-lt 63 a b (omega (arith, leb-true a 9223372036854775807 e)) (omega (arith, leb-true b 9223372036854775807 h))))
+joined-by a b true false e h = lt-leb (bitOr a b) 9223372036854775807 (omega (arith, leb-false b 9223372036854775807 h, least-joined b a, or-comm a b))
+joined-by a b false q e h = lt-leb (bitOr a b) 9223372036854775807 (omega (arith, leb-false a 9223372036854775807 e, least-joined a b))
+
+pub joined : (a b : ℕ) → clear (bitOr a b) ≡ clear a && clear b
+joined a b = joined-by a b _ _ refl refl

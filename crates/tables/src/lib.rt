@@ -1,16 +1,15 @@
 // Settings and tables: whether they keep the rules, and what they hold.
 ghost use mathlib.Core.Path.{_≡_};
-ghost use mathlib.Core.Bool.{Bool, _&&_, true};
-ghost use Prim.Native.Nat.{ℕ, _+_, _*_, _≤_};
+ghost use mathlib.Core.Bool.{_&&_, true};
+ghost use Prim.Native.Nat.{ℕ, _*_};
 ghost use lib.IntN.{ℤ, pos};
 ghost use lib.Dec.{eqb, leb};
-ghost use lib.ListN.{drop, length};
-ghost use lib.Signed.{leZ};
+ghost use lib.ListN.{length};
 ghost use Rattle.language.specs.Limits.{maxAmount, maxBack, maxLabels, maxMonths, oneFactor};
 ghost use Rattle.language.specs.Rules.Table.{allOf, monthOk, partyOk, settingsOk, tableOk, valuesBounded};
 ghost use Rattle.language.specs.Text.Number.{between};
 ghost use Rattle.tables.specs.Given.{tableOf};
-ghost use Rattle.tables.specs.Words.{wordOf};
+ghost use Rattle.tables.specs.Words.{Narrow, wordOf};
 
 pub mod fill;
 pub mod lookup;
@@ -38,62 +37,27 @@ fn word(x: i64) -> u64
     }
 }
 
-// Whether x lies in the range, by one comparison: a number below the first wraps to far above the last.
-fn is_within(x: i64, range: Range) -> bool
-    requires { ⌜ leZ (range .low) (range .high) ≡ true ⌝ }
-    ensures { λ r. ⌜ r ≡ between (range .low) (range .high) x ⌝ }
-{
-    let first = word(range.low);
-    let width = std::num::wrapping_sub_u64(word(range.high), first);
-    std::num::wrapping_sub_u64(word(x), first) <= width
-}
+// The greatest word whose first bit is 0.
+const LAST: u64 = 9_223_372_036_854_775_807;
 
-// Whether the four numbers from i on lie in the range.
-fn four_between(xs: &[i64], i: usize, range: Range) -> bool
-    requires { ⌜ (i + 4 ≤ length (now xs)) × (leZ (range .low) (range .high) ≡ true) ⌝ }
-    ensures { λ r. ⌜ allOf (between (range .low) (range .high)) (drop i (now (xs .entry))) ≡ r && allOf (between (range .low) (range .high)) (drop (i + 4) (now (xs .entry))) ⌝ }
-{
-    if is_within(xs[i], range) {
-        if is_within(xs[i + 1], range) {
-            if is_within(xs[i + 2], range) {
-                return is_within(xs[i + 3], range);
-            }
-        }
-    }
-    false
-}
-
-// Whether the numbers from `from` on do, one by one.
-fn rest_between(xs: &[i64], from: usize, range: Range) -> bool
-    requires { ⌜ (from ≤ length (now xs)) × (leZ (range .low) (range .high) ≡ true) ⌝ }
-    ensures { λ r. ⌜ r ≡ allOf (between (range .low) (range .high)) (drop from (now (xs .entry))) ⌝ }
-{
-    let mut i = from;
-    while i < xs.len() {
-        if is_within(xs[i], range) {
-            i += 1;
-        } else {
-            return false;
-        }
-    }
-    true
-}
-
-// Whether all numbers do: four at a time, then the rest.
+// Whether all numbers lie in the range. A number's word less that of the range's first wraps to a great one where the number lies below,
+// and with `room` added to it where it lies above; a great word has its first bit set, and so has any that it is joined with.
 pub fn all_between(xs: &[i64], range: Range) -> bool
-    requires { ⌜ leZ (range .low) (range .high) ≡ true ⌝ }
+    requires { ⌜ Narrow (range .low) (range .high) ⌝ }
     ensures { λ r. ⌜ r ≡ allOf (between (range .low) (range .high)) (now (xs .entry)) ⌝ }
 {
-    let fours = xs.len() / 4;
-    let mut k = 0;
-    while k < fours {
-        if four_between(xs, 4 * k, range) {
-            k += 1;
-        } else {
-            return false;
-        }
+    let first = word(range.low);
+    let room = LAST - std::num::wrapping_sub_u64(word(range.high), first);
+    let mut below = 0u64;
+    let mut above = room;
+    let mut i = 0;
+    while i < xs.len() {
+        let y = std::num::wrapping_sub_u64(word(xs[i]), first);
+        below = below | y;
+        above = above | std::num::wrapping_add_u64(y, room);
+        i += 1;
     }
-    rest_between(xs, 4 * fours, range)
+    (below | above) <= LAST
 }
 
 pub fn settings_ok(days: &[i64]) -> bool

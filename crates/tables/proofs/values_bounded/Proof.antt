@@ -10,7 +10,7 @@ use native.Mathlib.Omega.{arith}
 use Rattle.language.specs.Limits.{maxAmount}
 use Rattle.language.specs.Rules.Table.{valuesBounded}
 use Rattle.language.specs.Text.Number.{between}
-use Rattle.tables.proofs.Bounds.{in-order, opposite-fits, opposite-reads}
+use Rattle.tables.proofs.Bounds.{narrow, opposite-fits, opposite-reads}
 use Rattle.tables.proofs.Fills.{all-at}
 use Rattle.tables.proofs.Lists.{bounded-done, bounded-failed, bounded-passed, label-room}
 use Rattle.tables.proofs.values_bounded.Statement.{statement}
@@ -67,7 +67,7 @@ all-between-requires c κs =
     let bounds = s .before .args .bounds .now in
     let f : SFits w64 (getD bounds (s .loop .k) (pos 0)) = search needs in
     let e = all-at (between (pos 0) (pos maxAmount)) bounds (s .before .pre .1) (s .loop .k) (omega arith) in
-    in-order _ f e
+    narrow _ f e
 
 add-k : tie.Need-add-k Inv-loop μ-loop
 add-k c = omega arith
