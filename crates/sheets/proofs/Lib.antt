@@ -2,4 +2,5 @@
 pub mod Accepted
 pub mod AnswerTexts
 pub mod Refusals
+pub mod Rooms
 pub mod SheetReads

@@ -148,7 +148,7 @@ module _ {input : List ℕ} {days factors bounds values : List ℤ} {sheet : She
         (leb-true (sheet .factors) 601 (a .0), leb-true (sheet .labels) 8 (b .0), leb-true (sheet .values) 5288 (b .1))
 
     pub part-factors : sheet .factors ≤ length factors
-    part-factors = omega (arith, fit .0, s .months)
+    part-factors = s .months (fit .0)
 
     pub part-bounds : sheet .labels ≤ length bounds
     part-bounds = omega (arith, fit .1, s .labels)

@@ -1,6 +1,6 @@
 // The sheet as a call on bytes.
 ghost use mathlib.Core.Path.{_≡_};
-ghost use mathlib.Core.Bool.{_&&_};
+ghost use mathlib.Core.Bool.{_&&_, _||_};
 ghost use Prim.Native.Nat.{min, suc, _≤_};
 ghost use lib.Dec.{leb};
 ghost use lib.IntN.{natAbs, pos};
@@ -11,7 +11,7 @@ ghost use Rattle.language.specs.Text.Trees.{Delay, Plan};
 ghost use Rattle.rules.specs.Answers.{givenOf};
 ghost use Rattle.rules.specs.Standing.{Standing, Stands};
 ghost use Rattle.sheets.specs.Answers.{answerInto, refusalInto};
-ghost use Rattle.sheets.specs.Held.{SheetHeld};
+ghost use Rattle.sheets.specs.Held.{SheetHeld, TriedIs};
 ghost use Rattle.tables.specs.Lookup.{KeptSpan};
 ghost use Rattle.text.specs.Refusals.{numberOf};
 ghost use Rattle.writer.specs.Answers.{writtenAnswer};
@@ -159,44 +159,81 @@ fn answer_read(
     }
 }
 
-// A sheet that is not too long, with room for the values of every table that keeps the rules.
+// An answer, or that the lent lists do not hold the sheet's table though longer ones might.
+pub enum Tried {
+    Answered(Written),
+    Crowded,
+}
+
+// Whether lists of so many months and places hold a sheet's table, or all of a table that keeps the rules.
+fn is_held(sheet: Sheet, months: usize, places: usize) -> bool
+    ensures { λ r. ⌜ r ≡ (leb (sheet .factors) months || leb 601 months) && (leb (sheet .values) places || leb 5288 places) ⌝ }
+{
+    ((sheet.factors <= months) | (601 <= months)) & ((sheet.values <= places) | (5288 <= places))
+}
+
+// A sheet that is not too long, its table read into the lent lists.
+fn answer_in(input: &[u8], factors: &mut [i64], values: &mut [i64], out: &mut [u8]) -> Tried
+    requires { ⌜ length (now input) ≤ 60_000 ⌝ }
+    ensures { λ r. ⌜ TriedIs (now (input .entry)) (length (now (factors .entry))) (length (now (values .entry))) (now (out .entry)) (now (out .exit)) r ⌝ }
+{
+    let mut days = [0i64; 9];
+    let mut bounds = [0i64; 8];
+    let sheeting = lines::read_sheet(input, &mut days, factors, &mut bounds, values);
+    match sheeting {
+        Sheeting::Read(held) => {
+            if is_held(held, factors.len(), values.len()) {
+                Tried::Answered(answer_read(input, held, &days, factors, &bounds, values, out))
+            } else {
+                Tried::Crowded
+            }
+        }
+        Sheeting::Fault => Tried::Answered(refuse(Refusal::NotOfForm, out)),
+    }
+}
+
+// With room for every table that keeps the rules.
 fn long_sheet(input: &[u8], out: &mut [u8]) -> Written
     requires { ⌜ length (now input) ≤ 60_000 ⌝ }
     ensures { λ r. ⌜ (now (out .exit) ≡ sheetCall (now (input .entry)) (now (out .entry)) .buffer)
         × (writtenAnswer r ≡ sheetCall (now (input .entry)) (now (out .entry)) .answer) ⌝ }
 {
-    let mut days = [0i64; 9];
     let mut factors = [0i64; 601];
-    let mut bounds = [0i64; 8];
     let mut values = [0i64; 5288];
-    let sheeting = lines::read_sheet(input, &mut days, &mut factors, &mut bounds, &mut values);
-    match sheeting {
-        Sheeting::Read(held) => answer_read(input, held, &days, &factors, &bounds, &values, out),
-        Sheeting::Fault => refuse(Refusal::NotOfForm, out),
+    let tried = answer_in(input, &mut factors, &mut values, out);
+    match tried {
+        Tried::Answered(written) => written,
+        Tried::Crowded => refuse(Refusal::Table, out),
     }
 }
 
-// The same with less room to clear; a sheet with more values than that is read again.
+// With room for the values of two labels: less to clear. A sheet that has more is read again.
 fn short_sheet(input: &[u8], out: &mut [u8]) -> Written
     requires { ⌜ length (now input) ≤ 60_000 ⌝ }
     ensures { λ r. ⌜ (now (out .exit) ≡ sheetCall (now (input .entry)) (now (out .entry)) .buffer)
         × (writtenAnswer r ≡ sheetCall (now (input .entry)) (now (out .entry)) .answer) ⌝ }
 {
-    let mut days = [0i64; 9];
     let mut factors = [0i64; 601];
-    let mut bounds = [0i64; 8];
-    let mut values = [0i64; 1024];
-    let sheeting = lines::read_sheet(input, &mut days, &mut factors, &mut bounds, &mut values);
-    match sheeting {
-        Sheeting::Read(held) => {
-            let read = held.values;
-            if read <= 1024 {
-                answer_read(input, held, &days, &factors, &bounds, &values, out)
-            } else {
-                long_sheet(input, out)
-            }
-        }
-        Sheeting::Fault => refuse(Refusal::NotOfForm, out),
+    let mut values = [0i64; 1344];
+    let tried = answer_in(input, &mut factors, &mut values, out);
+    match tried {
+        Tried::Answered(written) => written,
+        Tried::Crowded => long_sheet(input, out),
+    }
+}
+
+// With room for the few numbers that a sheet of some lines has.
+fn brief_sheet(input: &[u8], out: &mut [u8]) -> Written
+    requires { ⌜ length (now input) ≤ 60_000 ⌝ }
+    ensures { λ r. ⌜ (now (out .exit) ≡ sheetCall (now (input .entry)) (now (out .entry)) .buffer)
+        × (writtenAnswer r ≡ sheetCall (now (input .entry)) (now (out .entry)) .answer) ⌝ }
+{
+    let mut factors = [0i64; 64];
+    let mut values = [0i64; 128];
+    let tried = answer_in(input, &mut factors, &mut values, out);
+    match tried {
+        Tried::Answered(written) => written,
+        Tried::Crowded => long_sheet(input, out),
     }
 }
 
@@ -208,8 +245,11 @@ pub fn sheet(input: &[u8], out: &mut [u8]) -> Written
     if 60_000 < input.len() {
         return refuse(Refusal::TooLong, out);
     }
-    // in so few bytes there are seldom more values than the smaller room holds
-    if input.len() <= 5120 {
+    // in so few bytes there are seldom more numbers than the smaller room holds
+    if input.len() <= 640 {
+        return brief_sheet(input, out);
+    }
+    if input.len() <= 10_240 {
         return short_sheet(input, out);
     }
     long_sheet(input, out)

@@ -1,47 +1,22 @@
 -- `long_sheet` meets its contract.
 use borrow.Author.Needs.{needs}
-use mathlib.Core.Path.{_∙_, ap, subst}
+use mathlib.Core.Path.{subst}
 use native.Mathlib.Omega.{arith}
-use Rattle.lines.specs.Sheets.{SheetIs}
-use Rattle.sheets.proofs.SheetReads.{faulty}
+use Rattle.sheets.specs.Held.{TriedIs}
 use Rattle.sheets.proofs.long_sheet.Statement.{statement}
 use Rattle.sheets.proofs.long_sheet.Tie as tie
 
-slice-aggregate-read-sheet : tie.Need-slice-aggregate-read-sheet
-slice-aggregate-read-sheet c = search needs
+slice-aggregate-answer-in : tie.Need-slice-aggregate-answer-in
+slice-aggregate-answer-in c = search needs
 
-slice-aggregate-read-sheet-2 : tie.Need-slice-aggregate-read-sheet-2
-slice-aggregate-read-sheet-2 c = search needs
+slice-aggregate-answer-in-2 : tie.Need-slice-aggregate-answer-in-2
+slice-aggregate-answer-in-2 c = search needs
 
-slice-aggregate-read-sheet-3 : tie.Need-slice-aggregate-read-sheet-3
-slice-aggregate-read-sheet-3 c = search needs
+answer-in-requires : tie.Need-answer-in-requires
+answer-in-requires c κs = search needs
 
-slice-aggregate-read-sheet-4 : tie.Need-slice-aggregate-read-sheet-4
-slice-aggregate-read-sheet-4 c = search needs
-
-read-sheet-requires : tie.Need-read-sheet-requires
-read-sheet-requires c κs = search needs
-
-enum-known-sheeting : tie.Need-enum-known-sheeting
-enum-known-sheeting c = search needs
-
-slice-aggregate-answer-read : tie.Need-slice-aggregate-answer-read
-slice-aggregate-answer-read c = search needs
-
-slice-aggregate-answer-read-2 : tie.Need-slice-aggregate-answer-read-2
-slice-aggregate-answer-read-2 c = search needs
-
-slice-aggregate-answer-read-3 : tie.Need-slice-aggregate-answer-read-3
-slice-aggregate-answer-read-3 c = search needs
-
-slice-aggregate-answer-read-4 : tie.Need-slice-aggregate-answer-read-4
-slice-aggregate-answer-read-4 c = search needs
-
-answer-read-requires : tie.Need-answer-read-requires
-answer-read-requires c κs =
-    let s = c .before .before .before .before .before .before .before .before .before .before .before .before .before .before .before .before .before .before .before in
-    let r = c .before .before .before .before .before .before .before .before .before .before .before .before .read-sheet in
-    record { read = subst (SheetIs (s .args .input .now) (r .last .1 .0) (r .last .1 .1 .0) (r .last .1 .1 .1 .0) (r .last .1 .1 .1 .1 .0)) (c .before .before .before .before .before .before .sheeting .given .1) (r .ensures); short = s .pre; settings = r .kept .1 .0; months = r .kept .1 .1 .0; labels = r .kept .1 .1 .1 .0; places = λ h. omega (arith, r .kept .1 .1 .1 .1 .0) }
+enum-known-tried : tie.Need-enum-known-tried
+enum-known-tried c = search needs
 
 enum-told : tie.Need-enum-told
 enum-told c = search needs
@@ -53,33 +28,29 @@ same-length : tie.Need-same-length
 same-length c = search needs
 
 returns : tie.Need-returns
-returns c = search needs
+returns c =
+    let s = c .before .before .before .before .before .before .before .before .before .before .before .before .before in
+    let r = c .before .before .before .before .before .before .before .answer-in in
+    subst (TriedIs (s .args .input .now) _ _ (s .args .out .now) (r .last .1 .1 .1 .0)) (c .before .tried .given .1) (r .ensures)
 
 same-length-2 : tie.Need-same-length-2
 same-length-2 c = search needs
 
 returns-2 : tie.Need-returns-2
 returns-2 c =
-    let s = c .before .before .before .before .before .before .before .before .before .before .before .before .before .before .before .before .before in
-    let r = c .before .before .before .before .before .before .before .before .before .before .read-sheet in
-    let e = faulty (s .args .input .now) (s .pre) (subst (SheetIs (s .args .input .now) (r .last .1 .0) (r .last .1 .1 .0) (r .last .1 .1 .1 .0) (r .last .1 .1 .1 .1 .0)) (c .before .before .before .before .enum-told .given .1) (r .ensures)) (s .args .out .now) in
-    (c .before .before .refuse .ensures .0 ∙ ap (λ o. o .buffer) e, c .before .before .refuse .ensures .1 ∙ ap (λ o. o .answer) e)
+    let s = c .before .before .before .before .before .before .before .before .before .before .before .before .before .before .before .before in
+    let r = c .before .before .before .before .before .before .before .before .before .before .answer-in in
+    let t = subst (TriedIs (s .args .input .now) _ _ (s .args .out .now) (r .last .1 .1 .1 .0)) (c .before .before .before .before .enum-told .given .1) (r .ensures) in
+    absurd (t .1 (omega arith, omega arith))
 
 pub long-sheet-spec : {M : Type 1} → statement M
 long-sheet-spec =
     tie.close
     (tie.spec
-    slice-aggregate-read-sheet
-    slice-aggregate-read-sheet-2
-    slice-aggregate-read-sheet-3
-    slice-aggregate-read-sheet-4
-    read-sheet-requires
-    enum-known-sheeting
-    slice-aggregate-answer-read
-    slice-aggregate-answer-read-2
-    slice-aggregate-answer-read-3
-    slice-aggregate-answer-read-4
-    answer-read-requires
+    slice-aggregate-answer-in
+    slice-aggregate-answer-in-2
+    answer-in-requires
+    enum-known-tried
     enum-told
     refuse-requires
     same-length

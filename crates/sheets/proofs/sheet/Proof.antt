@@ -17,8 +17,8 @@ returns c =
     let e = too-long (s .args .input .now) (c .before .before .before .before .if1 .taken) (s .args .out .now) in
     (c .before .before .refuse .ensures .0 ∙ ap (λ o. o .buffer) e, c .before .before .refuse .ensures .1 ∙ ap (λ o. o .answer) e)
 
-short-sheet-requires : tie.Need-short-sheet-requires
-short-sheet-requires c κs = search needs
+brief-sheet-requires : tie.Need-brief-sheet-requires
+brief-sheet-requires c κs = search needs
 
 same-length-2 : tie.Need-same-length-2
 same-length-2 c = search needs
@@ -26,14 +26,23 @@ same-length-2 c = search needs
 returns-2 : tie.Need-returns-2
 returns-2 c = search needs
 
-long-sheet-requires : tie.Need-long-sheet-requires
-long-sheet-requires c κs = search needs
+short-sheet-requires : tie.Need-short-sheet-requires
+short-sheet-requires c κs = search needs
 
 same-length-3 : tie.Need-same-length-3
 same-length-3 c = search needs
 
 returns-3 : tie.Need-returns-3
 returns-3 c = search needs
+
+long-sheet-requires : tie.Need-long-sheet-requires
+long-sheet-requires c κs = search needs
+
+same-length-4 : tie.Need-same-length-4
+same-length-4 c = search needs
+
+returns-4 : tie.Need-returns-4
+returns-4 c = search needs
 
 pub sheet-spec : {M : Type 1} → statement M
 sheet-spec =
@@ -42,9 +51,12 @@ sheet-spec =
     refuse-requires
     same-length
     returns
-    short-sheet-requires
+    brief-sheet-requires
     same-length-2
     returns-2
-    long-sheet-requires
+    short-sheet-requires
     same-length-3
-    returns-3)
+    returns-3
+    long-sheet-requires
+    same-length-4
+    returns-4)
