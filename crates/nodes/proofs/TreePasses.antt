@@ -84,10 +84,10 @@ module _ {P : Type 0} where
       unfolding rows
       split = append-assoc first (rows form c ++ rows form t) rest ∙ ap (λ x. first ++ x) (append-assoc (rows form c) (rows form t) rest)
 
-      head : take 5 (rows form (node l fs c t) ++ rest) ≡ first
+      pub head : take 5 (rows form (node l fs c t) ++ rest) ≡ first
       head = ap (take 5) split ∙ take-at first (rows form c ++ (rows form t ++ rest)) 5 (row-length (rowOf form l .letter) (slotsOf fs) c)
 
-      tail : drop 5 (rows form (node l fs c t) ++ rest) ≡ rows form c ++ (rows form t ++ rest)
+      pub tail : drop 5 (rows form (node l fs c t) ++ rest) ≡ rows form c ++ (rows form t ++ rest)
       tail = ap (drop 5) split ∙ drop-at first (rows form c ++ (rows form t ++ rest)) 5 (row-length (rowOf form l .letter) (slotsOf fs) c)
 
     -- f changes a node's row as g its fields

@@ -5,7 +5,7 @@ use lib.ListN.{drop, take, take-append-drop}
 use lib.Seq.{take-at}
 use mathlib.Core.Bool.{true}
 use mathlib.Core.List.{List, _++_}
-use mathlib.Core.Path.{_∙_, _≡_, ap, sym}
+use mathlib.Core.Path.{_∙_, _≡_, ap, subst, sym}
 use native.Mathlib.Omega.{arith}
 use Rattle.language.proofs.Rules.Tables.{setting-small}
 use Rattle.language.proofs.Text.Form.{formed-map, nodes-map}
@@ -28,7 +28,9 @@ use Rattle.nodes.specs.Rows.{countOf, rows}
 use Rattle.nodes.specs.Table.{natOf}
 use Rattle.rules.specs.Standing.{Standing}
 use Rattle.tables.proofs.PlanFills.{rows-filled, rows-set}
+use Rattle.tables.proofs.PlanSkips.{rows-skip}
 use Rattle.tables.specs.Fill.{fillRow, rowSet}
+use Rattle.tables.specs.Skips.{Skips}
 
 module _ {nodes : List ℤ} {count : ℕ} {x : Plan Delay} (s : Standing nodes count x) where
   -- the table is the plan's rows, and a rest
@@ -40,6 +42,10 @@ module _ {nodes : List ℤ} {count : ℕ} {x : Plan Delay} (s : Standing nodes c
 
   pub laid : Laid planForm nodes 0 (planTrees x end)
   laid = record { rest = drop (5 * count) nodes; is = whole; room = omega (arith, plan-rows x (s .formed)) }
+
+  -- its rows lead on past amounts and tests
+  pub standing-skips : Skips count nodes
+  standing-skips = subst (λ n. Skips n nodes) (sym (s .counted)) (subst (Skips (countOf (planTrees x end))) (sym whole) (rows-skip x (drop (5 * count) nodes)))
 
   module _ (days : List ℤ) where
     pub set-is : allRows (rowSet days) count nodes ≡ allSet days x

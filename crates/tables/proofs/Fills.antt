@@ -72,18 +72,18 @@ fill-keeps-size days row = go (hasDelay row)
     go true = length-set row 1 (fillDelay days (getD row 1 (pos 0)))
     go false = refl
 
-module _ (days : List ℤ) (at : ℕ) (nodes : List ℤ) where
-  in-row : (k : ℕ) → k < 5 → getD (rowFrom at nodes) k (pos 0) ≡ getD nodes (at + k) (pos 0)
-  in-row k h = getD-take 5 (drop at nodes) k (pos 0) h ∙ getD-drop at nodes k (pos 0)
+pub in-row : (at : ℕ) (nodes : List ℤ) (k : ℕ) → k < 5 → getD (rowFrom at nodes) k (pos 0) ≡ getD nodes (at + k) (pos 0)
+in-row at nodes k h = getD-take 5 (drop at nodes) k (pos 0) h ∙ getD-drop at nodes k (pos 0)
 
+module _ (days : List ℤ) (at : ℕ) (nodes : List ℤ) where
   -- a row with a delay, by what became of the delay
   pub row-delay : (after : List ℤ) (r : Filling) → at + 5 ≤ length nodes → hasDelay (rowFrom at nodes) ≡ true → SlotIs days (at + 1) nodes after r → RowIs days at nodes after r
   unfolding rowSet fillRow
   row-delay after Filled h e s = (
-    rw (e, in-row 1 (omega arith)) (s .0),
-    s .1 ∙ set-in-row at 1 (fillDelay days (getD nodes (at + 1) (pos 0))) nodes (omega arith) h ∙ rw (e, in-row 1 (omega arith)) refl,
+    rw (e, in-row at nodes 1 (omega arith)) (s .0),
+    s .1 ∙ set-in-row at 1 (fillDelay days (getD nodes (at + 1) (pos 0))) nodes (omega arith) h ∙ rw (e, in-row at nodes 1 (omega arith)) refl,
   )
-  row-delay after Unset h e s = rw (e, in-row 1 (omega arith)) s
+  row-delay after Unset h e s = rw (e, in-row at nodes 1 (omega arith)) s
 
   pub row-without : hasDelay (rowFrom at nodes) ≡ false → RowIs days at nodes nodes Filled
   unfolding rowSet fillRow
@@ -91,7 +91,7 @@ module _ (days : List ℤ) (at : ℕ) (nodes : List ℤ) where
 
   -- the letter of a row, as the code finds it
   pub is-delayed : (z : ℤ) → getD nodes at (pos 0) ≡ z → eqZ z (pos (byte "L")) || eqZ z (pos (byte "W")) ≡ true → hasDelay (rowFrom at nodes) ≡ true
-  is-delayed z e h = rw (in-row 0 (omega arith), add-zero at, e) h
+  is-delayed z e h = rw (in-row at nodes 0 (omega arith), add-zero at, e) h
 
   pub not-delayed : eqZ (getD nodes at (pos 0)) (pos (byte "L")) ≡ false → eqZ (getD nodes at (pos 0)) (pos (byte "W")) ≡ false → hasDelay (rowFrom at nodes) ≡ false
-  not-delayed e f = rw (in-row 0 (omega arith), add-zero at, e, f) refl
+  not-delayed e f = rw (in-row at nodes 0 (omega arith), add-zero at, e, f) refl

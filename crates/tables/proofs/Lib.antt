@@ -4,5 +4,7 @@ pub mod Fills
 pub mod Lists
 pub mod Lookups
 pub mod PlanFills
+pub mod PlanSkips
+pub mod Skips
 pub mod Spans
 pub mod Words

@@ -2,4 +2,5 @@
 pub mod Fill
 pub mod Given
 pub mod Lookup
+pub mod Skips
 pub mod Words

@@ -5,7 +5,9 @@ ghost use Prim.Native.Nat.{ℕ, _+_, _*_, _≤_, _<_};
 ghost use lib.IntN.{ℤ};
 ghost use lib.ListN.{length};
 ghost use Rattle.language.specs.Rules.Table.{settingsOk};
+ghost use Rattle.nodes.specs.Pass.{rowFrom};
 ghost use Rattle.tables.specs.Fill.{FillIs, RowIs, SlotIs};
+ghost use Rattle.tables.specs.Skips.{Skips, planStep};
 
 pub enum Filling {
     Filled,
@@ -44,18 +46,29 @@ pub fn fill_row(nodes: &mut [i64], at: usize, days: &[i64]) -> Filling
     }
 }
 
+// The row of the next plan behind row i: an amount or a test in between has no delay.
+fn next_plan(nodes: &[i64], i: usize) -> usize
+    requires { ⌜ (0 < planStep (rowFrom (5 * i) (now nodes))) × (5 * (i + planStep (rowFrom (5 * i) (now nodes))) ≤ length (now nodes)) ⌝ }
+    ensures { λ r. ⌜ r ≡ i + planStep (rowFrom (5 * i) (now (nodes .entry))) ⌝ }
+{
+    let letter = nodes[5 * i];
+    match letter {
+        83 => i + nodes[5 * i + 3] as usize,
+        87 => i + nodes[5 * i + 3] as usize,
+        _ => i + 1,
+    }
+}
+
 // The delays of the first rows.
 pub fn fill_rows(nodes: &mut [i64], count: usize, days: &[i64]) -> Filling
-    requires { ⌜ (5 * count ≤ length (now nodes)) × (settingsOk (now days) ≡ true) ⌝ }
+    requires { ⌜ (5 * count ≤ length (now nodes)) × (settingsOk (now days) ≡ true) × Skips count (now nodes) ⌝ }
     ensures { λ r. ⌜ FillIs (now (days .entry)) count (now (nodes .entry)) (now (nodes .exit)) r ⌝ }
 {
     let mut i = 0;
-    let mut at = 0;
     while i < count {
-        match fill_row(nodes, at, days) {
+        match fill_row(nodes, 5 * i, days) {
             Filling::Filled => {
-                i += 1;
-                at += 5;
+                i = next_plan(nodes, i);
             }
             Filling::Unset => {
                 return Filling::Unset;

@@ -9,7 +9,7 @@ use mir.Val.{SFits}
 use native.Mathlib.Omega.{arith}
 use Rattle.language.specs.Text.Number.{between}
 use Rattle.rules.proofs.Accepting.{accept-is, bad-settings, in-table, measure-ready, no-caller, no-table, refused-is, unset}
-use Rattle.rules.proofs.Filling.{set-is, standing-rows}
+use Rattle.rules.proofs.Filling.{set-is, standing-rows, standing-skips}
 use Rattle.rules.proofs.accept.Lts as lts
 use Rattle.rules.proofs.accept.Reads as reads
 use Rattle.rules.proofs.accept.Statement.{statement}
@@ -36,7 +36,7 @@ fill-rows-requires c κs =
     let s = c .before .before .before .before .before .before .before .before .before in
     let a = s .args in
     let e : length (a .nodes .now) ≡ 2560 = search needs in
-    (omega (arith, standing-rows (s .pre .standing)), sym (c .before .before .settings-ok .ensures) ∙ c .before .if3 .taken)
+    (omega (arith, standing-rows (s .pre .standing)), sym (c .before .before .settings-ok .ensures) ∙ c .before .if3 .taken, standing-skips (s .pre .standing))
 
 enum-told : tie.Need-enum-told
 enum-told c = search needs
