@@ -24,7 +24,7 @@ use Rattle.text.specs.declared.fields.Range.{Range}
 
 -- ---- order
 
-and-false : (b : Bool) → (b && false) ≡ false
+pub and-false : (b : Bool) → (b && false) ≡ false
 and-false true = refl
 and-false false = refl
 

@@ -1,12 +1,12 @@
 -- Laws of settings as the code reads them: P and a digit, alone or in a row with plus signs.
-use Prim.Native.Nat.{_+_, _-_, _<_, _^_, _≤_, suc, ℕ}
-use borrow.Author.Tests.{le-leb, le-ltb, leb-false, leb-true, lt-leb, lt-ltb, ne-eqb}
-use lib.Dec.{leb}
+use Prim.Native.Nat.{_+_, _*_, _-_, _<_, _^_, _≤_, min, suc, ℕ}
+use borrow.Author.Tests.{eqb-false, eqb-true, le-leb, le-ltb, leb-false, leb-true, lt-leb, lt-ltb, ltb-false, ltb-true, ne-eqb}
+use lib.Dec.{eqb, leb, ltb}
 use lib.IntN.{negℤ, pos, ℤ}
 use lib.ListN.{drop, getD, length, length-drop}
-use mathlib.Core.Bool.{Bool, false, true}
+use mathlib.Core.Bool.{Bool, _||_, cond, false, true}
 use mathlib.Core.List.{List, [], _∷_}
-use mathlib.Core.Option.{none, some}
+use mathlib.Core.Option.{Option, none, some}
 use mathlib.Core.Path.{_∙_, _≡_, ap, refl, sym}
 use native.Mathlib.Omega.{arith}
 use Rattle.language.specs.Text.Classes.{aDelay, asDelay, fieldOf, readSetting}
@@ -15,8 +15,8 @@ use Rattle.language.specs.Text.Number.{readNatural, readNumber}
 use Rattle.language.specs.Text.Trees.{setting}
 use Rattle.nodes.specs.Rows.{delaySlot, fieldSlots}
 use Rattle.text.specs.Positions.{upTo}
-use Rattle.text.specs.Settings.{Summed, settingsFrom}
-use Rattle.text.proofs.ClassLaws.{Held}
+use Rattle.text.specs.Settings.{Summed, oneMore, settingsFrom}
+use Rattle.text.proofs.ClassLaws.{Held, and-false}
 use Rattle.text.proofs.Positions.{head-le, head-ne, up-length, up-more, up-two}
 
 -- ---- P and a digit
@@ -64,6 +64,27 @@ setting-held f b z e l h q =
 
 -- ---- in a row: three bytes each
 
+-- bytes are below 256, so only `+P` comes to this number
+plus-P : (x y : ℕ) → x < 256 → x + 256 * y ≡ 20523 → (x ≡ 43) × (y ≡ 80)
+plus-P x y h e = (omega arith, omega arith)
+
+-- a byte that is neither below the lowest that may come nor above 7
+pub row-inside : (c low : ℕ) → (ltb c low || ltb 55 c) ≡ false → (low ≤ c) × (c ≤ 55)
+row-inside c low = go (ltb c low) refl
+  where
+    go : (q : Bool) → ltb c low ≡ q → (q || ltb 55 c) ≡ false → (low ≤ c) × (c ≤ 55)
+    go true q o = let z : _≡_ {A = ℕ} 0 1 = cc in absurd (omega arith)
+    go false q o = (ltb-false c low q, ltb-false 55 c o)
+
+either-none : (b : Bool) (o : Option ℕ) → o ≡ none → cond b o none ≡ none
+either-none true o e = e
+either-none false o e = refl
+
+-- behind 31 settings comes no other
+none-more : (low n : ℕ) (o : Option ℕ) (next : ℕ → Option ℕ) → 31 ≤ n → oneMore low n o next ≡ none
+none-more low n none next h = refl
+none-more low n (some k) next h = rw (le-ltb n 31 h, and-false (leb low k)) refl
+
 module _ (low n slot : ℕ) where
   row-short : (l : List ℕ) → 0 < length l → length l < 3 → settingsFrom low n slot l ≡ none
   unfolding settingsFrom
@@ -71,6 +92,13 @@ module _ (low n slot : ℕ) where
   row-short (x ∷ []) h k = refl
   row-short (x ∷ y ∷ []) h k = refl
   row-short (x ∷ y ∷ c ∷ rest) h k = absurd (omega arith)
+
+  row-many : (l : List ℕ) → 0 < length l → 31 ≤ n → settingsFrom low n slot l ≡ none
+  unfolding settingsFrom
+  row-many [] h k = absurd (omega arith)
+  row-many (x ∷ []) h k = refl
+  row-many (x ∷ y ∷ []) h k = refl
+  row-many (x ∷ y ∷ c ∷ rest) h k = either-none (eqb x 43) _ (none-more low n (readSetting (y ∷ c ∷ [])) _ k)
 
   pub row-plus : (l : List ℕ) → 0 < length l → (getD l 0 0 ≡ 43 → ⊥) → settingsFrom low n slot l ≡ none
   unfolding settingsFrom
@@ -95,10 +123,6 @@ module _ (low n slot : ℕ) where
     unfolding settingsFrom
     row-low k = rw (P-digit c l h, lt-leb low (c - 48) k) refl
 
-    row-many : low ≤ c - 48 → 31 ≤ n → settingsFrom low n slot (43 ∷ 80 ∷ c ∷ rest) ≡ none
-    unfolding settingsFrom
-    row-many k m = rw (P-digit c l h, le-leb low (c - 48) k, le-ltb n 31 m) refl
-
     row-more : low ≤ c - 48 → n < 31 → settingsFrom low n slot (43 ∷ 80 ∷ c ∷ rest) ≡ settingsFrom (c - 48) (n + 1) (slot + 32 ^ (c - 48)) rest
     unfolding settingsFrom
     row-more k m = rw (P-digit c l h, le-leb low (c - 48) k, lt-ltb n 31 m) refl
@@ -108,83 +132,111 @@ module _ (low n slot : ℕ) where
 abbrev pub fieldAt : List ℕ → ℕ → List ℕ
 fieldAt text i = upTo 44 (drop i text)
 
-pub record Rowing (text : List ℕ) (at low n slot i : ℕ) : Type 0 where
+-- n settings have been read, and slot is what they come to
+pub record Rowing (text : List ℕ) (at low slot i : ℕ) : Type 0 where
+  pub n : ℕ
+  pub far : i ≡ at + 3 * n
   pub same : settingsFrom 0 0 0 (fieldAt text at) ≡ settingsFrom (low - 48) n slot (fieldAt text i)
   pub place : at + length (fieldAt text at) ≡ i + length (fieldAt text i)
 
-pub row-start : (text : List ℕ) (at : ℕ) → Rowing text at 48 0 0 at
-row-start text at = record { same = refl; place = refl }
+pub row-start : (text : List ℕ) (at : ℕ) → Rowing text at 48 0 at
+row-start text at = record { n = 0; far = omega arith; same = refl; place = refl }
 
-module _ (text : List ℕ) (at low n slot i : ℕ) (r : Rowing text at low n slot i) where
+module _ (text : List ℕ) (at low slot i : ℕ) (r : Rowing text at low slot i) where
   pub row-done : (z : ℤ) → z ≡ pos slot → fieldAt text i ≡ [] → Summed (fieldAt text at) at z (i + 1)
   unfolding settingsFrom
   row-done z q e = record {
     slot = slot;
-    is = r .same ∙ ap (settingsFrom (low - 48) n slot) e;
+    is = r .same ∙ ap (settingsFrom (low - 48) (r .n) slot) e;
     value = q;
     ends = let k : length (fieldAt text i) ≡ 0 = ap length e in omega (arith, r .place);
   }
+
+  -- ---- no comma follows
 
   module _ (h : i < length text) (m : getD text i 0 ≡ 44 → ⊥) where
     here : fieldAt text i ≡ getD text i 0 ∷ fieldAt text (i + 1)
     here = up-more 44 text i h m m
 
-    pub row-cut : length text - i < 3 → settingsFrom 0 0 0 (fieldAt text at) ≡ none
-    row-cut k =
-        let some-byte : length (fieldAt text i) ≡ suc (length (fieldAt text (i + 1))) = ap length here in
-        r .same ∙ row-short (low - 48) n slot (fieldAt text i) (omega arith) (omega (arith, up-length 44 (drop i text), length-drop i text))
+    some-byte : 0 < length (fieldAt text i)
+    some-byte = let k : length (fieldAt text i) ≡ suc (length (fieldAt text (i + 1))) = ap length here in omega arith
 
-    pub row-other : (getD text i 0 ≡ 43 → ⊥) → settingsFrom 0 0 0 (fieldAt text at) ≡ none
-    row-other k = r .same ∙ ap (settingsFrom (low - 48) n slot) here ∙ row-plus (low - 48) n slot (getD text i 0 ∷ fieldAt text (i + 1)) (omega arith) k
+    -- fewer than three bytes, or behind 31 settings
+    pub row-last : min (length text) (at + 93) < i + 3 → settingsFrom 0 0 0 (fieldAt text at) ≡ none
+    row-last k = go (leb 31 (r .n)) refl
+      where
+        go : (q : Bool) → leb 31 (r .n) ≡ q → settingsFrom 0 0 0 (fieldAt text at) ≡ none
+        go true q = r .same ∙ row-many (low - 48) (r .n) slot (fieldAt text i) some-byte (leb-true 31 (r .n) q)
+        go false q =
+            let few : r .n < 31 = leb-false 31 (r .n) q in
+            r .same ∙ row-short (low - 48) (r .n) slot (fieldAt text i) some-byte (omega (arith, r .far, up-length 44 (drop i text), length-drop i text))
 
-    module _ (e : getD text i 0 ≡ 43) (long : i + 2 < length text) where
-      pub row-no-P : (getD text (i + 1) 0 ≡ 80 → ⊥) → settingsFrom 0 0 0 (fieldAt text at) ≡ none
-      row-no-P k =
-          r .same ∙ ap (settingsFrom (low - 48) n slot) (here ∙ ap (λ (b : ℕ). b ∷ fieldAt text (i + 1)) e)
-          ∙ row-P (low - 48) n slot (fieldAt text (i + 1)) (head-ne 44 text (i + 1) 80 (omega arith) k (omega arith))
+    row-no-P : getD text i 0 ≡ 43 → i + 1 < length text → (getD text (i + 1) 0 ≡ 80 → ⊥) → settingsFrom 0 0 0 (fieldAt text at) ≡ none
+    row-no-P e l k =
+        r .same ∙ ap (settingsFrom (low - 48) (r .n) slot) (here ∙ ap (λ (b : ℕ). b ∷ fieldAt text (i + 1)) e)
+        ∙ row-P (low - 48) (r .n) slot (fieldAt text (i + 1)) (head-ne 44 text (i + 1) 80 l k (omega arith))
 
-      module _ (p : getD text (i + 1) 0 ≡ 80) where
-        two : settingsFrom 0 0 0 (fieldAt text at) ≡ settingsFrom (low - 48) n slot (43 ∷ 80 ∷ fieldAt text (i + 2))
-        two =
-            r .same ∙ ap (settingsFrom (low - 48) n slot) (up-two 44 text i (omega arith) m m (λ q. omega arith) (λ q. omega arith)
-            ∙ ap (λ (b : ℕ). b ∷ getD text (i + 1) 0 ∷ fieldAt text (i + 2)) e ∙ ap (λ (b : ℕ). 43 ∷ b ∷ fieldAt text (i + 2)) p)
+    pub row-other : i + 1 < length text → (getD text i 0 + 256 * getD text (i + 1) 0 ≡ 20523 → ⊥) → settingsFrom 0 0 0 (fieldAt text at) ≡ none
+    row-other l k = go (eqb (getD text i 0) 43) refl
+      where
+        go : (q : Bool) → eqb (getD text i 0) 43 ≡ q → settingsFrom 0 0 0 (fieldAt text at) ≡ none
+        go true q = let e : getD text i 0 ≡ 43 = eqb-true _ 43 q in row-no-P e l (λ p. k (omega arith))
+        go false q =
+            r .same ∙ ap (settingsFrom (low - 48) (r .n) slot) here
+            ∙ row-plus (low - 48) (r .n) slot (getD text i 0 ∷ fieldAt text (i + 1)) (omega arith) (eqb-false _ 43 q)
 
-        pub row-no-digit : getD text (i + 2) 0 < 48 → settingsFrom 0 0 0 (fieldAt text at) ≡ none
-        row-no-digit k =
-            two ∙ row-no (low - 48) n slot (fieldAt text (i + 2)) (λ c q. P-low (c ∷ []) (omega (arith, head-le 44 text (i + 2) long)))
+  -- ---- `+P` follows, and a third byte
 
-        module _ (d : 48 ≤ getD text (i + 2) 0) where
-          three : settingsFrom 0 0 0 (fieldAt text at) ≡ settingsFrom (low - 48) n slot (43 ∷ 80 ∷ getD text (i + 2) 0 ∷ fieldAt text (i + 3))
-          three =
-              let q : i + 2 + 1 ≡ i + 3 = omega arith in
-              two ∙ ap (λ (l : List ℕ). settingsFrom (low - 48) n slot (43 ∷ 80 ∷ l)) (up-more 44 text (i + 2) long (λ x. omega arith) (λ x. omega arith)
-              ∙ ap (λ (k : ℕ). getD text (i + 2) 0 ∷ fieldAt text k) q)
+  module _ (long : i + 2 < length text) (byte : getD text i 0 < 256) (s : getD text i 0 + 256 * getD text (i + 1) 0 ≡ 20523) where
+    two : settingsFrom 0 0 0 (fieldAt text at) ≡ settingsFrom (low - 48) (r .n) slot (43 ∷ 80 ∷ fieldAt text (i + 2))
+    two =
+        let p : (getD text i 0 ≡ 43) × (getD text (i + 1) 0 ≡ 80) = plus-P _ _ byte s in
+        r .same ∙ ap (settingsFrom (low - 48) (r .n) slot) (up-two 44 text i (omega arith) (λ q. omega arith) (λ q. omega arith) (λ q. omega arith) (λ q. omega arith)
+        ∙ ap (λ (b : ℕ). b ∷ getD text (i + 1) 0 ∷ fieldAt text (i + 2)) (p .0) ∙ ap (λ (b : ℕ). 43 ∷ b ∷ fieldAt text (i + 2)) (p .1))
 
-          pub row-over : 55 < getD text (i + 2) 0 → settingsFrom 0 0 0 (fieldAt text at) ≡ none
-          row-over k = three ∙ row-no (low - 48) n slot (getD text (i + 2) 0 ∷ fieldAt text (i + 3)) (λ c q. P-high (c ∷ []) (omega arith))
+    row-no-digit : getD text (i + 2) 0 < 48 → settingsFrom 0 0 0 (fieldAt text at) ≡ none
+    row-no-digit k =
+        two ∙ row-no (low - 48) (r .n) slot (fieldAt text (i + 2)) (λ c q. P-low (c ∷ []) (omega (arith, head-le 44 text (i + 2) long)))
 
-          module _ (t : getD text (i + 2) 0 ≤ 55) where
-            pub row-falls : 48 ≤ low → getD text (i + 2) 0 < low → settingsFrom 0 0 0 (fieldAt text at) ≡ none
-            row-falls b k = three ∙ row-low (low - 48) n slot (getD text (i + 2) 0) (fieldAt text (i + 3)) d t (omega arith)
+    module _ (d : 48 ≤ getD text (i + 2) 0) where
+      three : settingsFrom 0 0 0 (fieldAt text at) ≡ settingsFrom (low - 48) (r .n) slot (43 ∷ 80 ∷ getD text (i + 2) 0 ∷ fieldAt text (i + 3))
+      three =
+          let q : i + 2 + 1 ≡ i + 3 = omega arith in
+          two ∙ ap (λ (l : List ℕ). settingsFrom (low - 48) (r .n) slot (43 ∷ 80 ∷ l)) (up-more 44 text (i + 2) long (λ x. omega arith) (λ x. omega arith)
+          ∙ ap (λ (k : ℕ). getD text (i + 2) 0 ∷ fieldAt text k) q)
 
-            pub row-full : low ≤ getD text (i + 2) 0 → 31 ≤ n → settingsFrom 0 0 0 (fieldAt text at) ≡ none
-            row-full b k = three ∙ row-many (low - 48) n slot (getD text (i + 2) 0) (fieldAt text (i + 3)) d t (omega arith) k
+      row-over : 55 < getD text (i + 2) 0 → settingsFrom 0 0 0 (fieldAt text at) ≡ none
+      row-over k = three ∙ row-no (low - 48) (r .n) slot (getD text (i + 2) 0 ∷ fieldAt text (i + 3)) (λ c q. P-high (c ∷ []) (omega arith))
 
-            pub row-next : (w : ℕ) → w ≡ 32 ^ (getD text (i + 2) 0 - 48) → low ≤ getD text (i + 2) 0 → n < 31 → Rowing text at (getD text (i + 2) 0) (n + 1) (slot + w) (i + 3)
-            row-next w q b k =
-                let byte3 : i + 2 + 1 ≡ i + 3 = omega arith in
-                let len1 : length (fieldAt text i) ≡ suc (suc (length (fieldAt text (i + 2)))) = ap length (up-two 44 text i (omega arith) m m (λ q. omega arith) (λ q. omega arith)) in
-                let len2 : length (fieldAt text (i + 2)) ≡ suc (length (fieldAt text (i + 3))) =
-                ap length (up-more 44 text (i + 2) long (λ x. omega arith) (λ x. omega arith)) ∙ ap (λ (k : ℕ). suc (length (fieldAt text k))) byte3 in
-                record {
-                  same = three ∙ row-more (low - 48) n slot (getD text (i + 2) 0) (fieldAt text (i + 3)) d t (omega arith) k
-                      ∙ ap (λ (v : ℕ). settingsFrom (getD text (i + 2) 0 - 48) (n + 1) (slot + v) (fieldAt text (i + 3))) (sym q);
-                  place = omega (arith, r .place);
-                }
+      row-falls : getD text (i + 2) 0 ≤ 55 → 48 ≤ low → getD text (i + 2) 0 < low → settingsFrom 0 0 0 (fieldAt text at) ≡ none
+      row-falls t b k = three ∙ row-low (low - 48) (r .n) slot (getD text (i + 2) 0) (fieldAt text (i + 3)) d t (omega arith)
 
-        pub row-below : 48 ≤ low → low ≤ 55 → getD text (i + 2) 0 < low → settingsFrom 0 0 0 (fieldAt text at) ≡ none
-        row-below b t k = go (leb 48 (getD text (i + 2) 0)) refl
-          where
-            go : (q : Bool) → leb 48 (getD text (i + 2) 0) ≡ q → settingsFrom 0 0 0 (fieldAt text at) ≡ none
-            go true q = let d : 48 ≤ getD text (i + 2) 0 = leb-true 48 _ q in row-falls d (omega arith) b k
-            go false q = row-no-digit (leb-false 48 _ q)
+    row-below : 48 ≤ low → low ≤ 55 → getD text (i + 2) 0 < low → settingsFrom 0 0 0 (fieldAt text at) ≡ none
+    row-below b t k = go (leb 48 (getD text (i + 2) 0)) refl
+      where
+        go : (q : Bool) → leb 48 (getD text (i + 2) 0) ≡ q → settingsFrom 0 0 0 (fieldAt text at) ≡ none
+        go true q = let d : 48 ≤ getD text (i + 2) 0 = leb-true 48 _ q in row-falls d (omega arith) b k
+        go false q = row-no-digit (leb-false 48 _ q)
+
+    pub row-outside : 48 ≤ low → low ≤ 55 → (ltb (getD text (i + 2) 0) low || ltb 55 (getD text (i + 2) 0)) ≡ true → settingsFrom 0 0 0 (fieldAt text at) ≡ none
+    row-outside b t = go (ltb (getD text (i + 2) 0) low) refl
+      where
+        go : (q : Bool) → ltb (getD text (i + 2) 0) low ≡ q → (q || ltb 55 (getD text (i + 2) 0)) ≡ true → settingsFrom 0 0 0 (fieldAt text at) ≡ none
+        go true q o = row-below b t (ltb-true _ low q)
+        go false q o = let k : low ≤ getD text (i + 2) 0 = ltb-false _ low q in row-over (omega arith) (ltb-true 55 _ o)
+
+    pub row-next : (w : ℕ) → w ≡ 32 ^ (getD text (i + 2) 0 - 48) → 48 ≤ low → low ≤ getD text (i + 2) 0 → getD text (i + 2) 0 ≤ 55 → i + 3 ≤ at + 93
+        → Rowing text at (getD text (i + 2) 0) (slot + w) (i + 3)
+    row-next w q b k t f =
+        let p : (getD text i 0 ≡ 43) × (getD text (i + 1) 0 ≡ 80) = plus-P _ _ byte s in
+        let byte3 : i + 2 + 1 ≡ i + 3 = omega arith in
+        let len1 : length (fieldAt text i) ≡ suc (suc (length (fieldAt text (i + 2)))) = ap length (up-two 44 text i (omega arith) (λ q. omega arith) (λ q. omega arith) (λ q. omega arith) (λ q. omega arith)) in
+        let len2 : length (fieldAt text (i + 2)) ≡ suc (length (fieldAt text (i + 3))) =
+        ap length (up-more 44 text (i + 2) long (λ x. omega arith) (λ x. omega arith)) ∙ ap (λ (k : ℕ). suc (length (fieldAt text k))) byte3 in
+        record {
+          n = r .n + 1;
+          far = omega (arith, r .far);
+          same = three (omega arith) ∙ row-more (low - 48) (r .n) slot (getD text (i + 2) 0) (fieldAt text (i + 3)) (omega arith) t (omega arith) (omega (arith, r .far))
+              ∙ ap (λ (v : ℕ). settingsFrom (getD text (i + 2) 0 - 48) (r .n + 1) (slot + v) (fieldAt text (i + 3))) (sym q);
+          place = omega (arith, r .place);
+        }

@@ -1,6 +1,6 @@
 // Settings: P0 to P7 as a delay, and those that are added to a payoff's month.
 ghost use mathlib.Core.Path.{_≡_};
-ghost use Prim.Native.Nat.{_-_, _^_, _≤_, _<_};
+ghost use Prim.Native.Nat.{_+_, _-_, _^_, _≤_, _<_, min};
 ghost use lib.ListN.{length, drop, getD};
 ghost use Rattle.language.specs.Text.Letters.{delay};
 ghost use Rattle.text.specs.Fields.{TakenIs};
@@ -56,45 +56,47 @@ fn weight(c: u8) -> u64
     }
 }
 
+// A byte as a number that others are added to.
+fn wide(b: u8) -> u64
+    ensures { λ r. ⌜ r ≡ b ⌝ }
+{
+    b as u64
+}
+
+// Where 31 settings from byte `at` on end, or the text if it ends before: no more are taken.
+fn last_end(len: usize, at: usize) -> usize
+    requires { ⌜ at ≤ len ⌝ }
+    ensures { λ r. ⌜ r ≡ min len (at + 93) ⌝ }
+{
+    if len - at < 93 { len } else { at + 93 }
+}
+
 // A month's settings, lowest first: how often each is added, as digits in base 32.
 pub fn read_settings(text: &[u8], at: usize) -> Taking
     requires { ⌜ at ≤ length (now text) ⌝ }
     ensures { λ r. ⌜ SettingsAre (upTo 44 (drop at (now (text .entry)))) at r ⌝ }
 {
+    let end = last_end(text.len(), at);
     let mut acc: u64 = 0;
-    let mut n: usize = 0;
     let mut low: u8 = b'0';
     let mut i = at;
-    while i < text.len() {
-        if text[i] == b',' {
-            return Taking::Value {
-                value: acc as i64,
-                next: i + 1,
-            };
-        }
-        if text.len() - i < 3 {
-            return Taking::Wrong;
-        }
-        if text[i] != b'+' {
-            return Taking::Wrong;
-        }
-        if text[i + 1] != b'P' {
-            return Taking::Wrong;
+    while i + 3 <= end {
+        // `+P` as one number of two bytes
+        if wide(text[i]) + 256 * wide(text[i + 1]) != 20523 {
+            break;
         }
         let c = text[i + 2];
-        if c < low {
-            return Taking::Wrong;
-        }
-        if b'7' < c {
-            return Taking::Wrong;
-        }
-        if 31 <= n {
+        if (c < low) | (b'7' < c) {
             return Taking::Wrong;
         }
         acc += weight(c);
         low = c;
-        n += 1;
         i += 3;
+    }
+    if i < text.len() {
+        if text[i] != b',' {
+            return Taking::Wrong;
+        }
     }
     Taking::Value {
         value: acc as i64,

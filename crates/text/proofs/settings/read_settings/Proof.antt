@@ -1,70 +1,51 @@
-use Prim.Native.Nat.{_*_, _-_, _≤_}
-use lib.ListN.{length}
+use Prim.Native.Nat.{_+_, _*_, _-_, _≤_}
+use lib.ListN.{getD}
+use mathlib.Core.List.{[]}
+use mathlib.Core.Logic.{⊎-elim}
+use mathlib.Core.Path.{_≡_}
 use mir.Syntax.{w64}
 use mir.ValLaws.{toZ-pos}
 use native.Mathlib.Omega.{arith}
 use Rattle.text.proofs.Positions.{up-comma, up-end}
-use Rattle.text.proofs.SettingLaws.{Rowing, row-below, row-cut, row-done, row-full, row-next, row-no-P, row-other, row-over, row-start}
+use Rattle.text.proofs.SettingLaws.{Rowing, fieldAt, row-done, row-inside, row-last, row-next, row-other, row-outside, row-start}
 use Rattle.text.proofs.settings.read_settings.Statement.{statement}
 use Rattle.text.proofs.settings.read_settings.Tie as tie
 
 abbrev Inv-loop : tie.InvT-loop
-Inv-loop text at acc₀ n₀ low₀ i₀ acc n low i = (at ≤ i) × (i ≤ length text) × (n ≤ 31) × (48 ≤ low) × (low ≤ 55) × (acc ≤ 34359738368 * n) × Rowing text at low n acc i
+Inv-loop text at end acc₀ low₀ i₀ acc low i = (at ≤ i) × (i ≤ end) × (48 ≤ low) × (low ≤ 55) × (3 * acc ≤ 34359738368 * (i - at)) × Rowing text at low acc i
 
 abbrev μ-loop : tie.MeasureT-loop
-μ-loop text at acc₀ n₀ low₀ i₀ acc n low i = length text - i
+μ-loop text at end acc₀ low₀ i₀ acc low i = end - i
+
+last-end-requires : tie.Need-last-end-requires Inv-loop μ-loop
+last-end-requires c κs = omega arith
 
 loop-holds : tie.Need-loop-holds Inv-loop μ-loop
-loop-holds c = (omega arith, omega arith, omega arith, omega arith, omega arith, omega arith, row-start _ _)
+loop-holds c = (omega arith, omega arith, omega arith, omega arith, omega arith, row-start _ _)
 
-shared-slice-read-if1 : tie.Need-shared-slice-read-if1 Inv-loop μ-loop
-shared-slice-read-if1 c = omega arith
+add-loop : tie.Need-add-loop Inv-loop μ-loop
+add-loop c = omega arith
 
-cast-t12 : tie.Need-cast-t12 Inv-loop μ-loop
-cast-t12 c = record { sfits = omega arith }
+shared-slice-read-wide : tie.Need-shared-slice-read-wide Inv-loop μ-loop
+shared-slice-read-wide c = omega arith
 
-add-t13 : tie.Need-add-t13 Inv-loop μ-loop
-add-t13 c = omega arith
+wide-requires : tie.Need-wide-requires Inv-loop μ-loop
+wide-requires c κs = tt
 
-returns : tie.Need-returns Inv-loop μ-loop
-returns c =
-    let t = c .before .before .before .before .before .args .text .now in
-    let l = c .before .before .before .loop in
-    row-done t (c .before .before .before .before .before .args .at) (l .low) (l .n) (l .acc) (l .i) (l .inv .6) _ (toZ-pos w64 (l .acc) (omega
-    arith)) (up-comma 44 t (l .i) (omega arith) (c .if1 .taken))
+add-wide : tie.Need-add-wide Inv-loop μ-loop
+add-wide c = omega arith
 
-sub-if2 : tie.Need-sub-if2 Inv-loop μ-loop
-sub-if2 c = omega arith
+shared-slice-read-wide-2 : tie.Need-shared-slice-read-wide-2 Inv-loop μ-loop
+shared-slice-read-wide-2 c = omega arith
 
-returns-2 : tie.Need-returns-2 Inv-loop μ-loop
-returns-2 c =
-    let t = c .before .before .before .before .before .before .args .text .now in
-    let l = c .before .before .before .before .loop in
-    row-cut t (c .before .before .before .before .before .before .args .at) (l .low) (l .n) (l .acc) (l .i) (l .inv .6) (omega arith)
-    (c .before .if1 .left) (c .if2 .taken)
+wide-requires-2 : tie.Need-wide-requires-2 Inv-loop μ-loop
+wide-requires-2 c κs = tt
 
-shared-slice-read-if3 : tie.Need-shared-slice-read-if3 Inv-loop μ-loop
-shared-slice-read-if3 c = omega arith
+mul-if1 : tie.Need-mul-if1 Inv-loop μ-loop
+mul-if1 c = omega (arith, c .before .shared-slice-known3 .given (c .before .before .before .before .before .loop .i + 1))
 
-returns-3 : tie.Need-returns-3 Inv-loop μ-loop
-returns-3 c =
-    let t = c .before .before .before .before .before .before .before .before .args .text .now in
-    let l = c .before .before .before .before .before .before .loop in
-    row-other t (c .before .before .before .before .before .before .before .before .args .at) (l .low) (l .n) (l .acc) (l .i) (l .inv .6) (omega
-    arith) (c .before .before .before .if1 .left) (c .if3 .taken)
-
-add-if4 : tie.Need-add-if4 Inv-loop μ-loop
-add-if4 c = omega arith
-
-shared-slice-read-if4 : tie.Need-shared-slice-read-if4 Inv-loop μ-loop
-shared-slice-read-if4 c = omega arith
-
-returns-4 : tie.Need-returns-4 Inv-loop μ-loop
-returns-4 c =
-    let t = c .before .before .before .before .before .before .before .before .before .before .args .text .now in
-    let l = c .before .before .before .before .before .before .before .before .loop in
-    row-no-P t (c .before .before .before .before .before .before .before .before .before .before .args .at) (l .low) (l .n) (l .acc) (l .i)
-    (l .inv .6) (omega arith) (c .before .before .before .before .before .if1 .left) (c .before .before .if3 .left) (omega arith) (c .if4 .taken)
+add-if1 : tie.Need-add-if1 Inv-loop μ-loop
+add-if1 c = omega (arith, c .before .shared-slice-known3 .given (c .before .before .before .before .before .loop .i), c .before .shared-slice-known3 .given (c .before .before .before .before .before .loop .i + 1))
 
 add-c : tie.Need-add-c Inv-loop μ-loop
 add-c c = omega arith
@@ -72,39 +53,20 @@ add-c c = omega arith
 shared-slice-read-c : tie.Need-shared-slice-read-c Inv-loop μ-loop
 shared-slice-read-c c = omega arith
 
-returns-5 : tie.Need-returns-5 Inv-loop μ-loop
-returns-5 c =
-    let t = c .before .before .before .before .before .before .before .before .before .before .before .before .args .text .now in
-    let l = c .before .before .before .before .before .before .before .before .before .before .loop in
-    row-below t (c .before .before .before .before .before .before .before .before .before .before .before .before .args .at) (l .low) (l .n) (l .acc)
-    (l .i) (l .inv .6) (omega arith) (c .before .before .before .before .before .before .before .if1 .left)
-    (c .before .before .before .before .if3 .left) (omega arith) (c .before .before .if4 .left) (omega arith) (omega arith) (c .if5 .taken)
-
-returns-6 : tie.Need-returns-6 Inv-loop μ-loop
-returns-6 c =
-    let t = c .before .before .before .before .before .before .before .before .before .before .before .before .before .args .text .now in
-    let l = c .before .before .before .before .before .before .before .before .before .before .before .loop in
-    row-over t (c .before .before .before .before .before .before .before .before .before .before .before .before .before .args .at) (l .low) (l .n)
-    (l .acc) (l .i) (l .inv .6) (omega arith) (c .before .before .before .before .before .before .before .before .if1 .left)
-    (c .before .before .before .before .before .if3 .left) (omega arith) (c .before .before .before .if4 .left) (omega arith) (c .if6 .taken)
-
-returns-7 : tie.Need-returns-7 Inv-loop μ-loop
-returns-7 c =
-    let t = c .before .before .before .before .before .before .before .before .before .before .before .before .before .before .args .text .now in
-    let l = c .before .before .before .before .before .before .before .before .before .before .before .before .loop in
-    row-full t (c .before .before .before .before .before .before .before .before .before .before .before .before .before .before .args .at) (l .low)
-    (l .n) (l .acc) (l .i) (l .inv .6) (omega arith) (c .before .before .before .before .before .before .before .before .before .if1 .left)
-    (c .before .before .before .before .before .before .if3 .left) (omega arith) (c .before .before .before .before .if4 .left) (omega arith) (omega
-    arith) (c .before .before .if5 .left) (c .if7 .taken)
+returns : tie.Need-returns Inv-loop μ-loop
+returns c =
+    let s = c .before .before .before .before .before .before .before .before .before .before .before in
+    let l = c .before .before .before .before .before .before .before .before .loop in
+    row-outside (s .args .text .now) (s .args .at) (l .low) (l .acc) (l .i) (l .inv .5) (omega arith)
+    (omega (arith, c .before .shared-slice-known4 .given (l .i))) (omega arith) (omega arith) (omega arith) (c .if2 .taken)
 
 weight-requires : tie.Need-weight-requires Inv-loop μ-loop
-weight-requires c κs = (omega arith, omega arith)
+weight-requires c κs =
+    let l = c .before .before .before .before .before .before .before .before .loop in
+    let digit = row-inside (getD (c .before .before .before .before .before .before .before .before .before .before .before .args .text .now) (l .i + 2) 0) (l .low) (c .if2 .left) in (omega arith, omega arith)
 
 add-acc : tie.Need-add-acc Inv-loop μ-loop
 add-acc c = omega (arith, c .weight .ensures .1)
-
-add-n : tie.Need-add-n Inv-loop μ-loop
-add-n c = omega arith
 
 add-i : tie.Need-add-i Inv-loop μ-loop
 add-i c = omega arith
@@ -114,34 +76,42 @@ loop-less c = omega arith
 
 loop-again : tie.Need-loop-again Inv-loop μ-loop
 loop-again c =
-    let t = c .before .before .before .before .before .before .before .before .before .before .before .before .before .before .before .args .text .now
-    in
-    let l = c .before .before .before .before .before .before .before .before .before .before .before .before .before .loop in (
-      omega arith,
+    let s = c .before .before .before .before .before .before .before .before .before .before .before .before in
+    let l = c .before .before .before .before .before .before .before .before .before .loop in
+    let digit = row-inside (getD (s .args .text .now) (l .i + 2) 0) (l .low) (c .before .if2 .left) in (
       omega arith,
       omega arith,
       omega arith,
       omega arith,
       omega (arith, c .weight .ensures .1),
-      row-next t
-          (c .before .before .before .before .before .before .before .before .before .before .before .before .before .before .before .args .at) (l .low)
-          (l .n) (l .acc) (l .i) (l .inv .6) (omega arith) (c .before .before .before .before .before .before .before .before .before .before .if1 .left)
-          (c .before .before .before .before .before .before .before .if3 .left) (omega arith) (c .before .before .before .before .before .if4 .left)
-          (omega arith) (omega arith) _ (c .weight .ensures .0) (c .before .before .before .if5 .left) (c .before .if7 .left),
+      row-next (s .args .text .now) (s .args .at) (l .low) (l .acc) (l .i) (l .inv .5) (omega arith)
+          (omega (arith, c .before .before .shared-slice-known4 .given (l .i))) (omega arith) _ (c .weight .ensures .0) (omega arith) (omega arith)
+          (omega arith) (omega arith),
     )
 
-cast-t19 : tie.Need-cast-t19 Inv-loop μ-loop
-cast-t19 c = record { sfits = omega arith }
+shared-slice-read-if4 : tie.Need-shared-slice-read-if4 Inv-loop μ-loop
+shared-slice-read-if4 c = omega arith
 
-add-t20 : tie.Need-add-t20 Inv-loop μ-loop
-add-t20 c = omega arith
+returns-2 : tie.Need-returns-2 Inv-loop μ-loop
+returns-2 c =
+    let s = c .before .before .before .before .before .before .before in
+    let l = c .before .before .before .before .loop in
+    ⊎-elim (λ w. row-last (s .args .text .now) (s .args .at) (l .low) (l .acc) (l .i) (l .inv .5) (omega arith) (c .if4 .taken) (omega arith))
+    (λ w. row-other (s .args .text .now) (s .args .at) (l .low) (l .acc) (l .i) (l .inv .5) (omega arith) (c .if4 .taken) (omega arith) (λ e. w .5 .taken (omega arith)))
+    (c .before .before .before .loop-test .came)
 
-returns-8 : tie.Need-returns-8 Inv-loop μ-loop
-returns-8 c =
-    let t = c .before .before .before .args .text .now in
-    let l = c .before .loop in
-    row-done t (c .before .before .before .args .at) (l .low) (l .n) (l .acc) (l .i) (l .inv .6) _ (toZ-pos w64 (l .acc) (omega arith)) (up-end 44 t
-    (l .i) (omega arith))
+cast-t26 : tie.Need-cast-t26 Inv-loop μ-loop
+cast-t26 c = record { sfits = omega arith }
+
+add-t8 : tie.Need-add-t8 Inv-loop μ-loop
+add-t8 c = omega arith
+
+returns-3 : tie.Need-returns-3 Inv-loop μ-loop
+returns-3 c =
+    let s = c .before .before .before .before .before in
+    let l = c .before .before .loop in
+    let over : fieldAt (s .args .text .now) (l .i) ≡ [] = ⊎-elim (λ w. up-comma 44 _ _ (w .0 .taken) (w .2 .left)) (λ w. up-end 44 _ _ (w .left)) (c .if3 .came) in
+    row-done (s .args .text .now) (s .args .at) (l .low) (l .acc) (l .i) (l .inv .5) _ (toZ-pos w64 (l .acc) (omega arith)) over
 
 pub read-settings-spec : {M : Type 1} → statement M
 read-settings-spec =
@@ -149,29 +119,26 @@ read-settings-spec =
     (tie.spec
     Inv-loop
     μ-loop
+    last-end-requires
     loop-holds
-    shared-slice-read-if1
-    cast-t12
-    add-t13
-    returns
-    sub-if2
-    returns-2
-    shared-slice-read-if3
-    returns-3
-    add-if4
-    shared-slice-read-if4
-    returns-4
+    add-loop
+    shared-slice-read-wide
+    wide-requires
+    add-wide
+    shared-slice-read-wide-2
+    wide-requires-2
+    mul-if1
+    add-if1
     add-c
     shared-slice-read-c
-    returns-5
-    returns-6
-    returns-7
+    returns
     weight-requires
     add-acc
-    add-n
     add-i
     loop-less
     loop-again
-    cast-t19
-    add-t20
-    returns-8)
+    shared-slice-read-if4
+    returns-2
+    cast-t26
+    add-t8
+    returns-3)
