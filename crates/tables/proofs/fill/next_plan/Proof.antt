@@ -11,8 +11,6 @@ use Rattle.nodes.proofs.Signed.{key, no-key}
 use Rattle.tables.proofs.Skips.{link-cast, link-leads, step-one}
 use Rattle.tables.proofs.fill.next_plan.Statement.{statement}
 use Rattle.tables.proofs.fill.next_plan.Tie as tie
-use Rattle.tables.proofs.fill.next_plan.Reads as reads
-use Rattle.tables.proofs.fill.next_plan.Lts as lts
 
 mul-letter : tie.Need-mul-letter
 mul-letter c = search needs
