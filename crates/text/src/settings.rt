@@ -63,12 +63,16 @@ fn wide(b: u8) -> u64
     b as u64
 }
 
-// Where 31 settings from byte `at` on end, or the text if it ends before: no more are taken.
-fn last_end(len: usize, at: usize) -> usize
+// The settings that are read start below this byte: at most 31 from byte `at` on, each of three bytes of the text.
+fn starts_end(len: usize, at: usize) -> usize
     requires { ⌜ at ≤ len ⌝ }
-    ensures { λ r. ⌜ r ≡ min len (at + 93) ⌝ }
+    ensures { λ r. ⌜ r ≡ min len (at + 93) - 2 ⌝ }
 {
-    if len - at < 93 { len } else { at + 93 }
+    if len - at < 93 {
+        if len < 2 { 0 } else { len - 2 }
+    } else {
+        at + 91
+    }
 }
 
 // A month's settings, lowest first: how often each is added, as digits in base 32.
@@ -76,11 +80,11 @@ pub fn read_settings(text: &[u8], at: usize) -> Taking
     requires { ⌜ at ≤ length (now text) ⌝ }
     ensures { λ r. ⌜ SettingsAre (upTo 44 (drop at (now (text .entry)))) at r ⌝ }
 {
-    let end = last_end(text.len(), at);
+    let end = starts_end(text.len(), at);
     let mut acc: u64 = 0;
     let mut low: u8 = b'0';
     let mut i = at;
-    while i + 3 <= end {
+    while i < end {
         // `+P` as one number of two bytes
         if wide(text[i]) + 256 * wide(text[i + 1]) != 20523 {
             break;

@@ -1,5 +1,5 @@
 use Prim.Native.Nat.{_+_, _*_, _-_, _≤_}
-use lib.ListN.{getD}
+use lib.ListN.{getD, length}
 use mathlib.Core.List.{[]}
 use mathlib.Core.Logic.{⊎-elim}
 use mathlib.Core.Path.{_≡_}
@@ -12,19 +12,16 @@ use Rattle.text.proofs.settings.read_settings.Statement.{statement}
 use Rattle.text.proofs.settings.read_settings.Tie as tie
 
 abbrev Inv-loop : tie.InvT-loop
-Inv-loop text at end acc₀ low₀ i₀ acc low i = (at ≤ i) × (i ≤ end) × (48 ≤ low) × (low ≤ 55) × (3 * acc ≤ 34359738368 * (i - at)) × Rowing text at low acc i
+Inv-loop text at end acc₀ low₀ i₀ acc low i = (at ≤ i) × (i ≤ end + 2) × (i ≤ length text) × (i ≤ at + 93) × (48 ≤ low) × (low ≤ 55) × (3 * acc ≤ 34359738368 * (i - at)) × Rowing text at low acc i
 
 abbrev μ-loop : tie.MeasureT-loop
 μ-loop text at end acc₀ low₀ i₀ acc low i = end - i
 
-last-end-requires : tie.Need-last-end-requires Inv-loop μ-loop
-last-end-requires c κs = omega arith
+starts-end-requires : tie.Need-starts-end-requires Inv-loop μ-loop
+starts-end-requires c κs = omega arith
 
 loop-holds : tie.Need-loop-holds Inv-loop μ-loop
-loop-holds c = (omega arith, omega arith, omega arith, omega arith, omega arith, row-start _ _)
-
-add-loop : tie.Need-add-loop Inv-loop μ-loop
-add-loop c = omega arith
+loop-holds c = (omega arith, omega arith, omega arith, omega arith, omega arith, omega arith, omega arith, row-start _ _)
 
 shared-slice-read-wide : tie.Need-shared-slice-read-wide Inv-loop μ-loop
 shared-slice-read-wide c = omega arith
@@ -57,7 +54,7 @@ returns : tie.Need-returns Inv-loop μ-loop
 returns c =
     let s = c .before .before .before .before .before .before .before .before .before .before .before in
     let l = c .before .before .before .before .before .before .before .before .loop in
-    row-outside (s .args .text .now) (s .args .at) (l .low) (l .acc) (l .i) (l .inv .5) (omega arith)
+    row-outside (s .args .text .now) (s .args .at) (l .low) (l .acc) (l .i) (l .inv .7) (omega arith)
     (omega (arith, c .before .shared-slice-known4 .given (l .i))) (omega arith) (omega arith) (omega arith) (c .if2 .taken)
 
 weight-requires : tie.Need-weight-requires Inv-loop μ-loop
@@ -83,8 +80,10 @@ loop-again c =
       omega arith,
       omega arith,
       omega arith,
+      omega arith,
+      omega arith,
       omega (arith, c .weight .ensures .1),
-      row-next (s .args .text .now) (s .args .at) (l .low) (l .acc) (l .i) (l .inv .5) (omega arith)
+      row-next (s .args .text .now) (s .args .at) (l .low) (l .acc) (l .i) (l .inv .7) (omega arith)
           (omega (arith, c .before .before .shared-slice-known4 .given (l .i))) (omega arith) _ (c .weight .ensures .0) (omega arith) (omega arith)
           (omega arith) (omega arith),
     )
@@ -96,8 +95,8 @@ returns-2 : tie.Need-returns-2 Inv-loop μ-loop
 returns-2 c =
     let s = c .before .before .before .before .before .before .before in
     let l = c .before .before .before .before .loop in
-    ⊎-elim (λ w. row-last (s .args .text .now) (s .args .at) (l .low) (l .acc) (l .i) (l .inv .5) (omega arith) (c .if4 .taken) (omega arith))
-    (λ w. row-other (s .args .text .now) (s .args .at) (l .low) (l .acc) (l .i) (l .inv .5) (omega arith) (c .if4 .taken) (omega arith) (λ e. w .5 .taken (omega arith)))
+    ⊎-elim (λ w. row-last (s .args .text .now) (s .args .at) (l .low) (l .acc) (l .i) (l .inv .7) (omega arith) (c .if4 .taken) (omega arith))
+    (λ w. row-other (s .args .text .now) (s .args .at) (l .low) (l .acc) (l .i) (l .inv .7) (omega arith) (c .if4 .taken) (omega arith) (λ e. w .5 .taken (omega arith)))
     (c .before .before .before .loop-test .came)
 
 cast-t26 : tie.Need-cast-t26 Inv-loop μ-loop
@@ -111,7 +110,7 @@ returns-3 c =
     let s = c .before .before .before .before .before in
     let l = c .before .before .loop in
     let over : fieldAt (s .args .text .now) (l .i) ≡ [] = ⊎-elim (λ w. up-comma 44 _ _ (w .0 .taken) (w .2 .left)) (λ w. up-end 44 _ _ (w .left)) (c .if3 .came) in
-    row-done (s .args .text .now) (s .args .at) (l .low) (l .acc) (l .i) (l .inv .5) _ (toZ-pos w64 (l .acc) (omega arith)) over
+    row-done (s .args .text .now) (s .args .at) (l .low) (l .acc) (l .i) (l .inv .7) _ (toZ-pos w64 (l .acc) (omega arith)) over
 
 pub read-settings-spec : {M : Type 1} → statement M
 read-settings-spec =
@@ -119,9 +118,8 @@ read-settings-spec =
     (tie.spec
     Inv-loop
     μ-loop
-    last-end-requires
+    starts-end-requires
     loop-holds
-    add-loop
     shared-slice-read-wide
     wide-requires
     add-wide
