@@ -1,12 +1,13 @@
 // Fields by class: a number within the class's range, or a delay.
 ghost use mathlib.Core.Path.{_≡_};
 ghost use mathlib.Core.Bool.{true};
-ghost use mathlib.Core.List.{[]};
-ghost use Prim.Native.Nat.{_+_, _≤_, _<_};
+ghost use mathlib.Core.List.{List, []};
+ghost use Prim.Native.Nat.{ℕ, _+_, _≤_, _<_};
 ghost use lib.ListN.{length, drop, getD};
 ghost use Rattle.text.specs.Positions.{upTo};
 ghost use Rattle.text.specs.Classes.{classOf, rangeOf, Limited, RangedIs};
 ghost use Rattle.text.specs.Fields.{DigitIs, TakenIs, TriedIs};
+ghost use Rattle.text.specs.Numbers.{NumberIs};
 use crate::numbers::Number;
 use crate::numbers::read_number;
 use crate::settings::read_setting;
@@ -61,12 +62,12 @@ fn range_of(class: u8) -> Range
     }
 }
 
-// A number within a range.
-pub fn read_ranged(text: &[u8], at: usize, stop: u8, range: Range) -> Number
-    requires { ⌜ (at ≤ length (now text)) × (stop < 45) × Limited range ⌝ }
-    ensures { λ r. ⌜ RangedIs range (upTo stop (drop at (now (text .entry)))) at r ⌝ }
+// A number that was read, where it lies within a range.
+pub fn in_range(number: Number, range: Range) -> Number
+    requires { ⌜ Limited range ⌝ }
+    ensures { λ r. ⌜ ((f : List ℕ) (at : ℕ) → NumberIs f at number → RangedIs range f at r) ⌝ }
 {
-    match read_number(text, at, stop) {
+    match number {
         Number::Is { value, end } => {
             if value < range.low {
                 return Number::Bad;
@@ -85,7 +86,7 @@ fn read_plain(text: &[u8], at: usize, class: u8) -> Taking
     ensures { λ r. ⌜ TakenIs (classOf class) (now (text .entry)) at r ⌝ }
 {
     let range = range_of(class);
-    match read_ranged(text, at, b',', range) {
+    match in_range(read_number(text, at, b','), range) {
         Number::Is { value, end } => Taking::Value {
             value,
             next: end + 1,

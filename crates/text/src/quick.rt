@@ -6,7 +6,6 @@ ghost use lib.ListN.{length, getD};
 ghost use Rattle.language.specs.Text.Letters.{payoffForm, planForm};
 ghost use Rattle.text.specs.Letters.{formOf, kindAt};
 ghost use Rattle.text.specs.Rows.{FillIs, QuickIs};
-use crate::fields::DELAY;
 use crate::fields::FROM_NODE;
 use crate::fields::LABEL;
 use crate::fields::PARTY;
@@ -15,11 +14,11 @@ use crate::letters::ROOT;
 use crate::letters::TextForm;
 use crate::letters::bare_letter;
 use crate::slots::Slots;
+use crate::slots::quick_delay;
 use crate::slots::quick_divisor;
 use crate::slots::quick_figure;
 use crate::slots::quick_reading;
 use crate::slots::quick_transfer;
-use crate::slots::read_one;
 use crate::slots::two_digits;
 use crate::trees::put_row;
 
@@ -100,7 +99,7 @@ fn plan_row(text: &[u8], at: usize, kind: u8, nodes: &mut [i64], count: usize) -
         }
         b'L' => {
             if kind == ROOT {
-                return fill_row(read_one(text, at + 2, DELAY), text, at, nodes, count, 1);
+                return fill_row(quick_delay(text, at + 2), text, at, nodes, count, 1);
             }
             Quick::Other
         }
@@ -121,13 +120,7 @@ fn payoff_row(text: &[u8], at: usize, kind: u8, nodes: &mut [i64], count: usize)
             }
             Quick::Other
         }
-        b'F' => {
-            if kind == ROOT {
-                return fill_row(quick_transfer(text, at + 2), text, at, nodes, count, 0);
-            }
-            Quick::Other
-        }
-        b'H' => {
+        b'F' | b'H' => {
             if kind == ROOT {
                 return fill_row(quick_transfer(text, at + 2), text, at, nodes, count, 0);
             }
@@ -165,7 +158,7 @@ fn field_row(
         }
         b'W' => {
             if kind == ROOT {
-                return fill_row(read_one(text, at + 2, DELAY), text, at, nodes, count, 23);
+                return fill_row(quick_delay(text, at + 2), text, at, nodes, count, 23);
             }
             Quick::Other
         }

@@ -2,22 +2,24 @@
 ghost use mathlib.Core.List.{_∷_, []};
 ghost use Prim.Native.Nat.{_+_, _≤_};
 ghost use lib.ListN.{length};
-ghost use Rattle.language.specs.Text.Letters.{divisor, figure, month};
+ghost use Rattle.language.specs.Text.Letters.{delay, divisor, figure, month};
 ghost use Rattle.text.specs.Classes.{classOf};
 ghost use Rattle.text.specs.Fields.{MonthIs, MonthTried, PairIs, SlotsAre, SlotsTried, classesOfTwo, classesOfThree};
+use crate::fields::DELAY;
 use crate::fields::LABEL;
 use crate::fields::MONTH;
 use crate::fields::NONE;
 use crate::fields::PARTY;
 use crate::fields::Range;
 use crate::fields::Taking;
+use crate::fields::in_range;
 use crate::fields::one_digit;
 use crate::fields::read_field;
-use crate::fields::read_ranged;
 use crate::numbers::Number;
 use crate::numbers::figure_at;
+use crate::numbers::read_number;
 use crate::numbers::short_number;
-use crate::settings::read_settings;
+use crate::settings::quick_settings;
 
 pub enum Taking2 {
     Values { a: i64, b: i64, next: usize },
@@ -47,8 +49,8 @@ fn read_month(text: &[u8], at: usize) -> Taking2
         low: -60,
         high: 19200,
     };
-    match read_ranged(text, at, b'+', range) {
-        Number::Is { value: a, end } => match read_settings(text, end) {
+    match in_range(read_number(text, at, b'+'), range) {
+        Number::Is { value: a, end } => match quick_settings(text, end) {
             Taking::Value { value: b, next } => Taking2::Values { a, b, next },
             Taking::Wrong => Taking2::Wrongs,
         },
@@ -214,6 +216,23 @@ pub fn read_one(text: &[u8], at: usize, class: u8) -> Slots
             next,
         },
         Taking::Wrong => Slots::Unfilled,
+    }
+}
+
+// A delay: most have one digit.
+pub fn quick_delay(text: &[u8], at: usize) -> Slots
+    requires { ⌜ at + 2 ≤ length (now text) ⌝ }
+    ensures { λ r. ⌜ SlotsTried (delay ∷ []) (now (text .entry)) at r ⌝ }
+{
+    match one_digit(text, at, DELAY) {
+        Taking::Value { value: a, next } => Slots::Filled {
+            a,
+            b: 0,
+            c: 0,
+            d: 0,
+            next,
+        },
+        Taking::Wrong => read_one(text, at, DELAY),
     }
 }
 

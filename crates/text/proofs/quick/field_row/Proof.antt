@@ -6,7 +6,6 @@ use Rattle.text.specs.Fields.{classesOfThree, classesOfTwo}
 use Rattle.text.specs.Letters.{formOf, kindAt}
 use Rattle.text.specs.Rows.{QuickIs}
 use Rattle.text.specs.declared.letters.TextForm.{TextForm}
-use Rattle.text.proofs.FieldLaws.{are-tried}
 use Rattle.text.proofs.QuickLaws.{commonShape, filled-opens, number-shape, quotient-shape, wait-shape, waitShape}
 use Rattle.text.proofs.quick.field_row.Statement.{statement}
 use Rattle.text.proofs.quick.field_row.Tie as tie
@@ -17,7 +16,7 @@ use Rattle.text.proofs.quick.payoff_row.Reads as payoff-row-reads
 use Rattle.text.proofs.quick.plan_row.Reads as plan-row-reads
 use Rattle.text.proofs.slots.quick_divisor.Reads as quick-divisor-reads
 use Rattle.text.proofs.slots.quick_figure.Reads as quick-figure-reads
-use Rattle.text.proofs.slots.read_one.Reads as read-one-reads
+use Rattle.text.proofs.slots.quick_delay.Reads as quick-delay-reads
 
 shared-slice-read-letter : tie.Need-shared-slice-read-letter
 shared-slice-read-letter c = search needs
@@ -60,11 +59,11 @@ returns-2 c =
     filled-opens (a .text .now) (a .at) (a .kind) (omega (arith, c .before .before .before .before .before .before .before .before .pre .0)) (c .before .before .before .before .before .before .before .before .pre .1) (formOf (a .form)) (a .nodes .now) (c .before .fill-row2 .last .1 .1 .1 .0) (a .count) 81 (c .before .before .before .before .before .match .keys2) (λ z. omega arith)
     (commonShape 2 6 0 0 2) (quotient-shape (a .form)) (λ z. omega arith) (sym (c .before .before .before .before .if2 .taken)) 2 refl refl (c .before .before .before .quick-divisor .result) (c .before .before .before .quick-divisor .ensures) (c .before .fill-row2 .result) (c .before .fill-row2 .ensures)
 
-add-read-one : tie.Need-add-read-one
-add-read-one c = search needs
+add-quick-delay : tie.Need-add-quick-delay
+add-quick-delay c = search needs
 
-read-one-requires : tie.Need-read-one-requires
-read-one-requires c κs = search needs
+quick-delay-requires : tie.Need-quick-delay-requires
+quick-delay-requires c κs = search needs
 
 fill-row-requires-3 : tie.Need-fill-row-requires-3
 fill-row-requires-3 c κs = search needs
@@ -77,7 +76,7 @@ unfolding classesOfThree classesOfTwo classOf
 returns-3 c =
     let a = c .before .before .before .before .before .before .before .before .args in
     filled-opens (a .text .now) (a .at) (a .kind) (omega (arith, c .before .before .before .before .before .before .before .before .pre .0)) (c .before .before .before .before .before .before .before .before .pre .1) (formOf (a .form)) (a .nodes .now) (c .before .fill-row3 .last .1 .1 .1 .0) (a .count) 87 (c .before .before .before .before .before .match .keys3) (λ z. omega arith)
-    waitShape (wait-shape (a .form)) (λ z. omega arith) (sym (c .before .before .before .before .if3 .taken)) 23 refl refl (c .before .before .before .read-one .result) (are-tried _ _ _ (c .before .before .before .read-one .result) (c .before .before .before .read-one .ensures)) (c .before .fill-row3 .result) (c .before .fill-row3 .ensures)
+    waitShape (wait-shape (a .form)) (λ z. omega arith) (sym (c .before .before .before .before .if3 .taken)) 23 refl refl (c .before .before .before .quick-delay .result) (c .before .before .before .quick-delay .ensures) (c .before .fill-row3 .result) (c .before .fill-row3 .ensures)
 
 enum-told : tie.Need-enum-told
 enum-told c = search needs
@@ -131,8 +130,8 @@ field-row-spec =
     fill-row-requires-2
     same-length-2
     returns-2
-    add-read-one
-    read-one-requires
+    add-quick-delay
+    quick-delay-requires
     fill-row-requires-3
     same-length-3
     returns-3

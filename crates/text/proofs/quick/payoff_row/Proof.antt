@@ -1,4 +1,5 @@
 use borrow.Author.Needs.{needs}
+use mathlib.Core.Logic.{⊎-elim}
 use mathlib.Core.Path.{refl, sym}
 use native.Mathlib.Omega.{arith}
 use Rattle.text.specs.Classes.{classOf}
@@ -7,11 +8,6 @@ use Rattle.language.specs.Text.Letters.{payoffForm}
 use Rattle.text.proofs.QuickLaws.{commonShape, cut-shape, filled-opens, future-shape, reading-shape}
 use Rattle.text.proofs.quick.payoff_row.Statement.{statement}
 use Rattle.text.proofs.quick.payoff_row.Tie as tie
-use Rattle.text.proofs.quick.payoff_row.Reads as reads
-use Rattle.text.proofs.quick.payoff_row.Lts as lts
-use Rattle.text.proofs.quick.fill_row.Reads as fill-row-reads
-use Rattle.text.proofs.slots.quick_reading.Reads as quick-reading-reads
-use Rattle.text.proofs.slots.quick_transfer.Reads as quick-transfer-reads
 
 shared-slice-read-letter : tie.Need-shared-slice-read-letter
 shared-slice-read-letter c = search needs
@@ -51,39 +47,20 @@ returns-2 : tie.Need-returns-2
 unfolding classesOfThree classesOfTwo classOf
 returns-2 c =
     let a = c .before .before .before .before .before .before .before .before .args in
-    filled-opens (a .text .now) (a .at) (a .kind) (omega (arith, c .before .before .before .before .before .before .before .before .pre .0)) (c .before .before .before .before .before .before .before .before .pre .1) payoffForm (a .nodes .now) (c .before .fill-row2 .last .1 .1 .1 .0) (a .count) 70 (c .before .before .before .before .before .match .keys2) (λ z. omega arith)
-    (commonShape 1 7 3 3 0) future-shape (λ z. omega arith) (sym (c .before .before .before .before .if2 .taken)) 0 refl refl (c .before .before .before .quick-transfer .result) (c .before .before .before .quick-transfer .ensures) (c .before .fill-row2 .result) (c .before .fill-row2 .ensures)
-
-add-quick-transfer-2 : tie.Need-add-quick-transfer-2
-add-quick-transfer-2 c = search needs
-
-quick-transfer-requires-2 : tie.Need-quick-transfer-requires-2
-quick-transfer-requires-2 c κs = search needs
-
-fill-row-requires-3 : tie.Need-fill-row-requires-3
-fill-row-requires-3 c κs = search needs
-
-same-length-3 : tie.Need-same-length-3
-same-length-3 c = search needs
+    ⊎-elim (λ e. filled-opens (a .text .now) (a .at) (a .kind) (omega (arith, c .before .before .before .before .before .before .before .before .pre .0)) (c .before .before .before .before .before .before .before .before .pre .1) payoffForm (a .nodes .now) (c .before .fill-row2 .last .1 .1 .1 .0) (a .count) 70 e (λ z. omega arith)
+    (commonShape 1 7 3 3 0) future-shape (λ z. omega arith) (sym (c .before .before .before .before .if2 .taken)) 0 refl refl (c .before .before .before .quick-transfer .result) (c .before .before .before .quick-transfer .ensures) (c .before .fill-row2 .result) (c .before .fill-row2 .ensures))
+    (λ e. filled-opens (a .text .now) (a .at) (a .kind) (omega (arith, c .before .before .before .before .before .before .before .before .pre .0)) (c .before .before .before .before .before .before .before .before .pre .1) payoffForm (a .nodes .now) (c .before .fill-row2 .last .1 .1 .1 .0) (a .count) 72 e (λ z. omega arith)
+    (commonShape 1 7 3 3 0) cut-shape (λ z. omega arith) (sym (c .before .before .before .before .if2 .taken)) 0 refl refl (c .before .before .before .quick-transfer .result) (c .before .before .before .quick-transfer .ensures) (c .before .fill-row2 .result) (c .before .fill-row2 .ensures))
+    (c .before .before .before .before .before .match .keys2)
 
 returns-3 : tie.Need-returns-3
-unfolding classesOfThree classesOfTwo classOf
-returns-3 c =
-    let a = c .before .before .before .before .before .before .before .before .args in
-    filled-opens (a .text .now) (a .at) (a .kind) (omega (arith, c .before .before .before .before .before .before .before .before .pre .0)) (c .before .before .before .before .before .before .before .before .pre .1) payoffForm (a .nodes .now) (c .before .fill-row3 .last .1 .1 .1 .0) (a .count) 72 (c .before .before .before .before .before .match .keys3) (λ z. omega arith)
-    (commonShape 1 7 3 3 0) cut-shape (λ z. omega arith) (sym (c .before .before .before .before .if3 .taken)) 0 refl refl (c .before .before .before .quick-transfer2 .result) (c .before .before .before .quick-transfer2 .ensures) (c .before .fill-row3 .result) (c .before .fill-row3 .ensures)
+returns-3 c = search needs
 
 returns-4 : tie.Need-returns-4
 returns-4 c = search needs
 
 returns-5 : tie.Need-returns-5
 returns-5 c = search needs
-
-returns-6 : tie.Need-returns-6
-returns-6 c = search needs
-
-returns-7 : tie.Need-returns-7
-returns-7 c = search needs
 
 pub payoff-row-spec : {M : Type 1} → statement M
 payoff-row-spec =
@@ -100,12 +77,6 @@ payoff-row-spec =
     fill-row-requires-2
     same-length-2
     returns-2
-    add-quick-transfer-2
-    quick-transfer-requires-2
-    fill-row-requires-3
-    same-length-3
     returns-3
     returns-4
-    returns-5
-    returns-6
-    returns-7)
+    returns-5)

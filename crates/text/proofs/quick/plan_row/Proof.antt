@@ -4,14 +4,13 @@ use native.Mathlib.Omega.{arith}
 use Rattle.text.specs.Classes.{classOf}
 use Rattle.text.specs.Fields.{classesOfThree, classesOfTwo}
 use Rattle.language.specs.Text.Letters.{planForm}
-use Rattle.text.proofs.FieldLaws.{are-tried}
 use Rattle.text.proofs.QuickLaws.{commonShape, delay-shape, filled-opens, index-shape, transfer-shape}
 use Rattle.text.proofs.quick.plan_row.Statement.{statement}
 use Rattle.text.proofs.quick.plan_row.Tie as tie
 use Rattle.text.proofs.quick.plan_row.Reads as reads
 use Rattle.text.proofs.quick.plan_row.Lts as lts
 use Rattle.text.proofs.quick.fill_row.Reads as fill-row-reads
-use Rattle.text.proofs.slots.read_one.Reads as read-one-reads
+use Rattle.text.proofs.slots.quick_delay.Reads as quick-delay-reads
 use Rattle.text.proofs.slots.two_digits.Reads as two-digits-reads
 
 shared-slice-read-letter : tie.Need-shared-slice-read-letter
@@ -55,11 +54,11 @@ returns-2 c =
     filled-opens (a .text .now) (a .at) (a .kind) (omega (arith, c .before .before .before .before .before .before .before .before .pre .0)) (c .before .before .before .before .before .before .before .before .pre .1) planForm (a .nodes .now) (c .before .fill-row2 .last .1 .1 .1 .0) (a .count) 84 (c .before .before .before .before .before .match .keys2) (λ z. omega arith)
     (commonShape 1 3 3 0 0) transfer-shape (λ z. omega arith) (sym (c .before .before .before .before .if2 .taken)) 0 refl refl (c .before .before .before .two-digits2 .result) (c .before .before .before .two-digits2 .ensures) (c .before .fill-row2 .result) (c .before .fill-row2 .ensures)
 
-add-read-one : tie.Need-add-read-one
-add-read-one c = search needs
+add-quick-delay : tie.Need-add-quick-delay
+add-quick-delay c = search needs
 
-read-one-requires : tie.Need-read-one-requires
-read-one-requires c κs = search needs
+quick-delay-requires : tie.Need-quick-delay-requires
+quick-delay-requires c κs = search needs
 
 fill-row-requires-3 : tie.Need-fill-row-requires-3
 fill-row-requires-3 c κs = search needs
@@ -72,7 +71,7 @@ unfolding classesOfThree classesOfTwo classOf
 returns-3 c =
     let a = c .before .before .before .before .before .before .before .before .args in
     filled-opens (a .text .now) (a .at) (a .kind) (omega (arith, c .before .before .before .before .before .before .before .before .pre .0)) (c .before .before .before .before .before .before .before .before .pre .1) planForm (a .nodes .now) (c .before .fill-row3 .last .1 .1 .1 .0) (a .count) 76 (c .before .before .before .before .before .match .keys3) (λ z. omega arith)
-    (commonShape 1 2 0 0 1) delay-shape (λ z. omega arith) (sym (c .before .before .before .before .if3 .taken)) 1 refl refl (c .before .before .before .read-one .result) (are-tried _ _ _ (c .before .before .before .read-one .result) (c .before .before .before .read-one .ensures)) (c .before .fill-row3 .result) (c .before .fill-row3 .ensures)
+    (commonShape 1 2 0 0 1) delay-shape (λ z. omega arith) (sym (c .before .before .before .before .if3 .taken)) 1 refl refl (c .before .before .before .quick-delay .result) (c .before .before .before .quick-delay .ensures) (c .before .fill-row3 .result) (c .before .fill-row3 .ensures)
 
 returns-4 : tie.Need-returns-4
 returns-4 c = search needs
@@ -101,8 +100,8 @@ plan-row-spec =
     fill-row-requires-2
     same-length-2
     returns-2
-    add-read-one
-    read-one-requires
+    add-quick-delay
+    quick-delay-requires
     fill-row-requires-3
     same-length-3
     returns-3
