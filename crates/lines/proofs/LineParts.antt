@@ -3,8 +3,8 @@ use Prim.Native.Nat.{_+_, _-_, _<_, _≤_, suc, zero, ℕ}
 use lib.Dec.{eqb, eqb→eq, leb}
 use lib.IntN.{natAbs, ℤ}
 use lib.ListN.{drop, length, length-drop, length-take, take}
-use mathlib.Core.Bool.{Bool, _&&_, cond, false, true, true≢false}
-use mathlib.Core.List.{List, [], _++_, _∷_}
+use mathlib.Core.Bool.{Bool, cond, false, true, true≢false}
+use mathlib.Core.List.{List, [], _∷_}
 use mathlib.Core.Option.{Option, none, some}
 use mathlib.Core.Path.{_∙_, _≡_, ap, ap₂, refl, subst, sym}
 use native.Mathlib.Omega.{arith}
@@ -228,10 +228,6 @@ module _ (word : List ℕ) {input : List ℕ} {at : ℕ} {line : List ℕ} {next
 
 -- the first line is the plan's
 module _ (input : List ℕ) where
-  plan-word : bytes "plan" ≡ 112 ∷ 108 ∷ 97 ∷ 110 ∷ []
-  unfolding bytes
-  plan-word = refl
-
   worded-is : (fs : List (List ℕ)) → worded "plan" fs ≡ wordedBy (112 ∷ 108 ∷ 97 ∷ 110 ∷ []) fs
   unfolding worded bytes
   worded-is [] = refl

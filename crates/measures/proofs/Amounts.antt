@@ -1,14 +1,14 @@
 -- An amount or test that can be walked: what stands at a node by its letter, and its parts can be walked too.
 use Prim.Native.Nat.{_+_, _-_, _<_, _≤_, suc, zero, ℕ}
-use Rattle.language.specs.Limits.{maxAmount, maxLabels, maxNodes}
+use Rattle.language.specs.Limits.{maxAmount, maxNodes}
 use Rattle.language.specs.Text.Form.{fieldsOfAmount, fieldsOfTest, offsetInForm}
 use Rattle.language.specs.Text.Trees.{Amount, Test}
 use Rattle.measures.specs.Ready.{AmountReady, AmountsReady, TestReady, TestsReady}
 use Rattle.nodes.specs.Found.{amountAt, amountBy, offsetOf, testAt, testBy}
 use Rattle.nodes.specs.Letters.{amountLetter, testLetter}
 use Rattle.nodes.specs.Stands.{AmountStands, Forward, TestStands, amountAsks, testAsks}
-use Rattle.nodes.specs.Table.{linkAt, natOf, slotAt}
-use Rattle.nodes.specs.declared.AmountLetter.the-variants.{Choose, Difference, Index, Number, Product, Quotient, Sum}
+use Rattle.nodes.specs.Table.{linkAt, slotAt}
+use Rattle.nodes.specs.declared.AmountLetter.the-variants.{Choose, Difference, Number, Product, Quotient, Sum}
 use Rattle.nodes.specs.declared.AmountLetter.{AmountLetter}
 use Rattle.nodes.specs.declared.TestLetter.the-variants.{Conjunction, Disjunction, Equal, Less, Negation}
 use Rattle.nodes.specs.declared.TestLetter.{TestLetter}
@@ -96,10 +96,6 @@ module _ {left at : ℕ} {nodes : List ℤ} (h : AmountReady left nodes at) wher
     pub number-ready : l ≡ Number → natAbs (slotAt nodes at 1) ≤ maxAmount
     unfolding fieldsOfAmount
     number-ready t = inForm e t
-
-    pub index-ready : l ≡ Index → (natOf (slotAt nodes at 1) < maxLabels) × offsetInForm (slotAt nodes at 2)
-    unfolding fieldsOfAmount
-    index-ready t = inForm e t
 
     pub sum-ready : l ≡ Sum → AmountsReady (left - 1) nodes at
     unfolding fieldsOfAmount

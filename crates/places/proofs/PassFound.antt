@@ -3,8 +3,7 @@ use Prim.Native.Nat.{ℕ}
 use lib.IntN.{ℤ}
 use mathlib.Core.Bool.{true}
 use mathlib.Core.List.{List, _++_}
-use mathlib.Core.Path.{_∙_, _≡_, ap, refl}
-use Rattle.amounts.specs.Placed.{placeIn}
+use mathlib.Core.Path.{_∙_, _≡_, ap}
 use Rattle.language.proofs.Rules.Tables.{rules-of}
 use Rattle.language.specs.Limits.{maxDepth}
 use Rattle.language.specs.Rules.Settings.{closed}
@@ -30,9 +29,6 @@ use Rattle.places.specs.Place.{SpanIn, placeOf, placeRow, rowIn}
 -- a table that keeps the rules covers months in range, and has the places that its months alone decide
 pub table-span : (t : Table) → tableOk t ≡ true → SpanIn (t .h) (t .f)
 table-span t ok = record { back = rules-of t ok .back; ahead = rules-of t ok .ahead }
-
-pub table-places : (t : Table) → placeOf (t .h) (t .f) ≡ placeIn t
-table-places t = refl
 
 module _ (x : Plan ℕ) (form : Formed filledInForm x) (rest before : List ℤ) (e : before ≡ rows planForm (planTrees (closed x) end) ++ rest) where
   pub pass-in : allRows rowIn (countOf (planTrees (closed x) end)) before ≡ true

@@ -1,5 +1,5 @@
 -- Lists that a sheet's table is read into: what it says that they hold it.
-use Prim.Native.Nat.{_<_, _≤_, ℕ}
+use Prim.Native.Nat.{_≤_, ℕ}
 use borrow.Author.Tests.{le-leb, leb-true}
 use lib.Dec.{leb}
 use mathlib.Core.Bool.{Bool, _&&_, _||_, false, or-true, true, true≢false}

@@ -1,12 +1,10 @@
 -- What a lookup finds is the value; outside the table it is 0.
 use Prim.Native.Nat.{ℕ}
-use lib.Dec.{T}
 use lib.IntN.{pos, ℤ}
 use mathlib.Core.Bool.{Bool, cond, false, true}
 use mathlib.Core.Path.{_≡_, refl, sym}
 use Rattle.integers.specs.declared.Pence.{Pence}
 use Rattle.language.proofs.Acceptance.{no-answer}
-use Rattle.language.proofs.Truth.{tested}
 use Rattle.language.specs.Answer.{Answer, got, refused}
 use Rattle.language.specs.Rules.Table.{Table, readable, valueAt}
 use Rattle.tables.specs.Lookup.{foundAnswer, lookedUp}
@@ -28,8 +26,3 @@ module _ (t : Table) (l : ℕ) (m : ℤ) where
       go : (b : Bool) (v : ℤ) → got (p .0) ≡ cond b (got v) (refused 11) → p .0 ≡ v
       go true v e = cc
       go false v e = no-answer (sym e)
-
-  -- what an accepted plan reads is never outside
-  pub accepted-found : T (readable t l m) → lookedUp t l m ≡ got (valueAt t l m)
-  unfolding lookedUp
-  accepted-found h = rw (tested (readable t l m) h) refl

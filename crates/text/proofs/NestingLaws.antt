@@ -7,7 +7,7 @@ use lib.ListN.{getD, length, length-append, set, take}
 use lib.Seq.{getD-set-other, getD-set-same, set-append-left, take-set-lt}
 use mathlib.Core.Bool.{Bool, false, true}
 use mathlib.Core.List.{List, [], _++_, _∷_, append-assoc, append-nil}
-use mathlib.Core.Path.{_∙_, _≡_, ap, ap₂, refl, subst, sym}
+use mathlib.Core.Path.{_∙_, _≡_, ap, ap₂, refl, sym}
 use native.Mathlib.Omega.{arith}
 use Rattle.language.specs.Answer.{Answer, got, refused}
 use Rattle.language.specs.Text.Classes.{Field}
@@ -414,9 +414,6 @@ module _ {P : Type 0} (form : Form P) (text : List ℕ) where
 
     pub own-before : entry / 2048 < count
     own-before = omega (arith, own-is, count-is)
-
-    pub left-small : entry / 32 % 64 ≤ 31
-    left-small = omega (arith, left-is)
 
     abbrev next : Frame P
     next = record { sort = f .sort; values = f .values; done = beside (f .done) (node (w .sort) (w .values) (w .below) end); next = f .later; later = 0 }

@@ -1,21 +1,21 @@
 -- A payoff's table has the payoff's text.
 use Prim.Native.Nat.{ℕ}
-use lib.IntN.{pos, ℤ}
-use mathlib.Core.List.{List, [], _++_, _∷_}
+use lib.IntN.{pos}
+use mathlib.Core.List.{List, [], _∷_}
 use mathlib.Core.Path.{_≡_, ap, refl}
 use Rattle.language.specs.Text.Classes.{aDelay, aMonth, aNumber, printDelay, printField, printMonth}
 use Rattle.language.specs.Text.Form.{delayInForm}
 use Rattle.language.specs.Text.Letters.{AmountLetter, PayoffLetter, amountRow, letterAmong, letterIn, ofAmount, ofRoot, payoffForm, payoffRow, planRow, rowOf, testRow}
 use Rattle.language.specs.Text.Number.{printNumber}
-use Rattle.language.specs.Text.PayoffForm.{FormedPayoff, MonthField, fieldsOfPayoff}
-use Rattle.language.specs.Text.Plans.{Written, payoffTrees, printPayoff}
+use Rattle.language.specs.Text.PayoffForm.{MonthField, fieldsOfPayoff}
+use Rattle.language.specs.Text.Plans.{Written, payoffTrees}
 use Rattle.language.specs.Text.Reader.{Trees, end, printFields}
 use Rattle.language.specs.Text.Trees.{Delay, Month, await, cut, leaf, nil, plus, times, uncut}
-use Rattle.nodes.specs.Rows.{countOf, fieldSlots, rows, settingsIn, settingsSlot, slotsOf}
+use Rattle.nodes.specs.Rows.{fieldSlots, rows, settingsIn, settingsSlot, slotsOf}
 use Rattle.writer.proofs.Built.{delay-back, says-amount, says-test}
 use Rattle.nodes.proofs.Settings.{settings-back}
-use Rattle.writer.proofs.Tables.{RowSays, Says, plainRows, written-plain, written-tree}
-use Rattle.writer.specs.Written.{classesOf, fieldsFrom, fieldsOfRow, written}
+use Rattle.writer.proofs.Tables.{RowSays, Says}
+use Rattle.writer.specs.Written.{classesOf, fieldsFrom, fieldsOfRow}
 
 -- ---- single rows
 
@@ -66,12 +66,3 @@ says-payoff (await d t x y) h r s =
 pub payoff-says : (x : Written) → fieldsOfPayoff x → Says payoffForm (payoffTrees x end)
 unfolding Says
 payoff-says x h = says-payoff x h end tt
-
-pub written-payoff : (x : Written) → FormedPayoff x → (rest : List ℤ) → written (countOf (payoffTrees x end)) (rows payoffForm (payoffTrees x end) ++ rest) ≡ printPayoff x
-unfolding printPayoff
-written-payoff x h rest = written-tree payoffForm (payoffTrees x end) (payoff-says x (h .fields)) rest
-
--- the same without links
-pub written-payoff-plain : (x : Written) → FormedPayoff x → (rest : List ℤ) → written (countOf (payoffTrees x end)) (plainRows payoffForm (payoffTrees x end) ++ rest) ≡ printPayoff x
-unfolding printPayoff
-written-payoff-plain x h rest = written-plain payoffForm (payoffTrees x end) (payoff-says x (h .fields)) rest

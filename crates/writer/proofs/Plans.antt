@@ -1,20 +1,20 @@
 -- A plan's table has the plan's text.
 use Prim.Native.Nat.{ℕ}
 use lib.IntN.{pos, ℤ}
-use mathlib.Core.List.{List, [], _++_, _∷_, append-nil}
-use mathlib.Core.Path.{_≡_, ap, refl}
+use mathlib.Core.List.{List, [], _∷_, append-nil}
+use mathlib.Core.Path.{ap, refl}
 use Rattle.language.specs.Text.Classes.{aDelay, aNumber, printDelay, printField, printMonth, settingFields}
 use Rattle.language.specs.Text.Fields.{behind, joinWith}
-use Rattle.language.specs.Text.Form.{Formed, delayInForm, fieldsOf, offsetInForm}
+use Rattle.language.specs.Text.Form.{delayInForm, fieldsOf, offsetInForm}
 use Rattle.language.specs.Text.Letters.{AmountLetter, PlanLetter, amountRow, letterAmong, letterIn, ofAmount, ofRoot, payoffRow, planForm, planRow, rowOf, testRow}
 use Rattle.language.specs.Text.Number.{printNumber}
-use Rattle.language.specs.Text.Plans.{planTrees, printPlan}
+use Rattle.language.specs.Text.Plans.{planTrees}
 use Rattle.language.specs.Text.Reader.{Trees, end, printFields}
 use Rattle.language.specs.Text.Trees.{Delay, Plan, both, later, nothing, scale, transfer, within}
-use Rattle.nodes.specs.Rows.{countOf, fieldSlots, rows, settingsFrom, slotsOf}
+use Rattle.nodes.specs.Rows.{fieldSlots, rows, settingsFrom, slotsOf}
 use Rattle.writer.proofs.Built.{delay-back, says-amount, says-test}
-use Rattle.writer.proofs.Tables.{RowSays, Says, plainRows, written-plain, written-tree}
-use Rattle.writer.specs.Written.{classesOf, fieldsFrom, fieldsOfRow, written}
+use Rattle.writer.proofs.Tables.{RowSays, Says}
+use Rattle.writer.specs.Written.{classesOf, fieldsFrom, fieldsOfRow}
 
 -- ---- single rows
 
@@ -59,12 +59,3 @@ says-plan (within d t x y) h r s =
 pub plan-says : (x : Plan Delay) → fieldsOf delayInForm x → Says planForm (planTrees x end)
 unfolding Says
 plan-says x h = says-plan x h end tt
-
-pub written-plan : (x : Plan Delay) → Formed delayInForm x → (rest : List ℤ) → written (countOf (planTrees x end)) (rows planForm (planTrees x end) ++ rest) ≡ printPlan x
-unfolding printPlan
-written-plan x h rest = written-tree planForm (planTrees x end) (plan-says x (h .fields)) rest
-
--- the same without links
-pub written-plan-plain : (x : Plan Delay) → Formed delayInForm x → (rest : List ℤ) → written (countOf (planTrees x end)) (plainRows planForm (planTrees x end) ++ rest) ≡ printPlan x
-unfolding printPlan
-written-plan-plain x h rest = written-plain planForm (planTrees x end) (plan-says x (h .fields)) rest

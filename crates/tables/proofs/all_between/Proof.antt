@@ -4,7 +4,7 @@ use borrow.Author.Tests.{le-leb}
 use lib.IntN.{pos, ℤ}
 use lib.ListN.{drop, getD, length}
 use mathlib.Core.Bool.{_&&_, and-true}
-use mathlib.Core.Path.{_∙_, _≡_, ap, refl, sym}
+use mathlib.Core.Path.{_∙_, _≡_, ap, sym}
 use mir.Syntax.{w64}
 use mir.Val.{Fits, SFits}
 use native.Mathlib.Omega.{arith}

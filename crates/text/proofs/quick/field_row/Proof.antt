@@ -9,14 +9,6 @@ use Rattle.text.specs.declared.letters.TextForm.{TextForm}
 use Rattle.text.proofs.QuickLaws.{commonShape, filled-opens, number-shape, quotient-shape, wait-shape, waitShape}
 use Rattle.text.proofs.quick.field_row.Statement.{statement}
 use Rattle.text.proofs.quick.field_row.Tie as tie
-use Rattle.text.proofs.quick.field_row.Reads as reads
-use Rattle.text.proofs.quick.field_row.Lts as lts
-use Rattle.text.proofs.quick.fill_row.Reads as fill-row-reads
-use Rattle.text.proofs.quick.payoff_row.Reads as payoff-row-reads
-use Rattle.text.proofs.quick.plan_row.Reads as plan-row-reads
-use Rattle.text.proofs.slots.quick_divisor.Reads as quick-divisor-reads
-use Rattle.text.proofs.slots.quick_figure.Reads as quick-figure-reads
-use Rattle.text.proofs.slots.quick_delay.Reads as quick-delay-reads
 
 shared-slice-read-letter : tie.Need-shared-slice-read-letter
 shared-slice-read-letter c = search needs

@@ -7,11 +7,6 @@ use Rattle.language.specs.Text.Letters.{planForm}
 use Rattle.text.proofs.QuickLaws.{commonShape, delay-shape, filled-opens, index-shape, transfer-shape}
 use Rattle.text.proofs.quick.plan_row.Statement.{statement}
 use Rattle.text.proofs.quick.plan_row.Tie as tie
-use Rattle.text.proofs.quick.plan_row.Reads as reads
-use Rattle.text.proofs.quick.plan_row.Lts as lts
-use Rattle.text.proofs.quick.fill_row.Reads as fill-row-reads
-use Rattle.text.proofs.slots.quick_delay.Reads as quick-delay-reads
-use Rattle.text.proofs.slots.two_digits.Reads as two-digits-reads
 
 shared-slice-read-letter : tie.Need-shared-slice-read-letter
 shared-slice-read-letter c = search needs
