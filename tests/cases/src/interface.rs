@@ -88,5 +88,28 @@ pub fn all() -> Vec<Case> {
                 same((&out, answer), (b"refused,2\n*", [10]))
             },
         },
+        Case {
+            name: "a sheet of few bytes with many numbers, and of many bytes",
+            needs: &["sheet"],
+            run: || {
+                // the last value of the last label is paid in the last month
+                for (f, labels) in [(2, 1), (70, 1), (40, 4), (448, 3), (600, 7), (600, 8)] {
+                    let last = labels - 1;
+                    let index = |label| {
+                        let paid = if label == last { 7 } else { 0 };
+                        format!("index,{label},9{},{paid}\n", ",0".repeat(f))
+                    };
+                    let input = format!(
+                        "plan,L,{f},S,O,{last},0,T,1,2\ndays\nspan,0,{f}\nfactors{}\npair,1,2\n{}",
+                        ",1".repeat(f + 1),
+                        (0..labels).map(index).collect::<String>()
+                    );
+                    let waiting: String = (0..f).map(|month| format!("{month},0,7\n")).collect();
+                    let printed = format!("accepted,{f},9\n{waiting}{f},7,7\n");
+                    same_for(&format!("{f}, {labels}"), sheet(&input), Ok(printed))?;
+                }
+                Ok(())
+            },
+        },
     ]
 }
