@@ -203,6 +203,7 @@ fn long_sheet(input: &[u8], out: &mut [u8]) -> Written
     let tried = answer_in(input, &mut factors, &mut values, out);
     match tried {
         Tried::Answered(written) => written,
+        // never: lists as long as these are not crowded
         Tried::Crowded => refuse(Refusal::Table, out),
     }
 }

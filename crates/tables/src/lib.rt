@@ -49,6 +49,7 @@ pub fn all_between(xs: &[i64], range: Range) -> bool
     let first = word(range.low);
     let room = LAST - std::num::wrapping_sub_u64(word(range.high), first);
     let mut below = 0u64;
+    // the room's own first bit is 0
     let mut above = room;
     let mut i = 0;
     while i < xs.len() {
