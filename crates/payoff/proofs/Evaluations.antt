@@ -7,7 +7,7 @@ use mathlib.Core.List.{List, _++_}
 use mathlib.Core.Path.{_∙_, _≡_, ap, ap₂, refl, subst, sym}
 use native.Mathlib.Omega.{arith}
 use Rattle.language.proofs.Rules.Tables.{setting-small}
-use Rattle.language.proofs.Text.Payoffs.{PayoffRead, payoff-trees}
+use Rattle.language.proofs.Text.Payoffs.{PayoffRead, payoff-read, payoff-trees}
 use Rattle.language.proofs.Truth.{and-e}
 use Rattle.language.specs.Answer.{refused}
 use Rattle.language.specs.Calls.{Given, evaluate, evaluateCall, pairOk}
@@ -16,7 +16,7 @@ use Rattle.language.specs.Payoff.Evaluate.{fillPayoff}
 use Rattle.language.specs.Payoff.Settings.{payoffSet}
 use Rattle.language.specs.Rules.Table.{monthOk, settingAt, settingsOk, tableOk}
 use Rattle.language.specs.Text.Letters.{payoffForm}
-use Rattle.language.specs.Text.Plans.{Written, payoffTrees, readPayoff}
+use Rattle.language.specs.Text.Plans.{Written, payoffTrees, printPayoff, readPayoff}
 use Rattle.language.specs.Text.Reader.{end, readText}
 use Rattle.nodes.proofs.AmountsFound.{Finds}
 use Rattle.nodes.proofs.Counts.{payoff-rows}
@@ -26,13 +26,16 @@ use Rattle.nodes.specs.Rows.{countOf, rows}
 use Rattle.nodes.specs.Stands.{PayoffStands}
 use Rattle.nodes.specs.Table.{natOf}
 use Rattle.payoff.proofs.FilledRanges.{filled-range}
+use Rattle.payoff.proofs.Opens.{none-open}
 use Rattle.payoff.proofs.TableFacts.{month-known}
 use Rattle.payoff.specs.Evaluating.{EvaluateIs, Standing, Stands, evaluatingAnswer, givenOf}
+use Rattle.payoff.specs.Opens.{opens}
 use Rattle.payoff.specs.declared.Evaluating.{Evaluating}
 use Rattle.payoff.specs.declared.Evaluating.the-variants.{Refused}
 use Rattle.settling.proofs.FilledFound.{filled-found}
 use Rattle.settling.proofs.PayoffSettles as settled
-use Rattle.settling.specs.Settle.{SettleIs, rowIn, rowSettled, settleRow}
+use Rattle.settling.proofs.PlainRows.{plain-settled}
+use Rattle.settling.specs.Settle.{SettleIs, Settled, rowIn, rowSettled, settleRow}
 use Rattle.tables.specs.declared.fill.Filling.the-variants.{Filled}
 use Rattle.text.specs.ReadInto as read
 use Rattle.text.specs.Refusals.{numberOf}
@@ -52,6 +55,10 @@ module _ {nodes : List ℤ} {count : ℕ} {x : Written} (s : Standing nodes coun
 
   pub standing-in : allRows rowIn count nodes ≡ true
   standing-in = ap₂ (allRows rowIn) (s .counted) whole ∙ settled.rows-in nodes x (drop (5 * count) nodes) (s .formed .fields)
+
+  -- with no open setting, it is settled as it stands
+  plain-stands : opens (printPayoff x) ≡ false → Settled count nodes
+  plain-stands e = rw (s .counted) (subst (Settled (countOf (payoffTrees x end))) (sym (rw (s .counted) at whole)) (plain-settled x (drop (5 * countOf (payoffTrees x end)) nodes) (s .formed .fields) (none-open x e)))
 
   module _ (days : List ℤ) where
     pub set-is : allRows (rowSettled days) count nodes ≡ payoffSet days x
@@ -115,6 +122,10 @@ module _ (text : List ℕ) where
 
     pub read-stands : Stands nodes n
     read-stands = record { payoff = was .payoff; standing = standing }
+
+    -- nothing is to be filled where the text has no setting
+    pub read-settled : opens text ≡ false → Settled n nodes
+    read-settled e = plain-stands standing (ap opens (payoff-read text (was .payoff) (was .is) .1) ∙ e)
 
     pub evaluate-is : (g : Given) (p q now : ℤ) {r : Evaluating} → EvaluateIs g p q now n nodes r → evaluatingAnswer r ≡ evaluateCall text g p q now
     unfolding evaluateCall

@@ -4,5 +4,6 @@ pub mod Copied
 pub mod Cuts
 pub mod Evaluations
 pub mod FilledRanges
+pub mod Opens
 pub mod TableFacts
 pub mod Texts

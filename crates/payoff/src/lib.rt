@@ -1,8 +1,8 @@
 // Payoffs: compiling, cutting and evaluating.
 ghost use mathlib.Core.Path.{_≡_};
 ghost use Prim.Native.Nat.{_*_, _≤_};
-ghost use lib.ListN.{length};
-ghost use mathlib.Core.Bool.{_&&_};
+ghost use lib.ListN.{drop, length};
+ghost use mathlib.Core.Bool.{_&&_, _||_, false};
 ghost use mathlib.Core.List.{map};
 ghost use lib.IntN.{pos};
 ghost use Rattle.language.specs.Calls.{compileCall, cutCall, evaluateCall, over, pairOk};
@@ -11,6 +11,8 @@ ghost use Rattle.payoff.specs.Answers.{writingAnswer};
 ghost use Rattle.payoff.specs.Compiling.{PlanRows};
 ghost use Rattle.payoff.specs.Cut.{cutByte};
 ghost use Rattle.payoff.specs.Evaluating.{EvaluateIs, Stands, evaluatingAnswer, givenOf};
+ghost use Rattle.payoff.specs.Opens.{opens};
+ghost use Rattle.settling.specs.Settle.{Settled};
 ghost use Rattle.worths.specs.Answers.{worthAnswer};
 ghost use Rattle.writer.specs.Answers.{writtenAnswer};
 use compiles::months::Months;
@@ -138,7 +140,35 @@ fn caller_ok(span: Span, month: Month, pair: Pair) -> bool
     tables::month_ok(span.f, month.0) & (tables::party_ok(pair.p) & tables::party_ok(pair.q))
 }
 
-// A payoff that was read: 9, 12, 8, then its value. Its open settings are filled in the table.
+// Whether one of the bytes from one on up to another is a `P`.
+fn part_opens(text: &[u8], from: usize, to: usize) -> bool
+    requires { ⌜ (from ≤ to) × (to ≤ length (now text)) ⌝ }
+    ensures { λ r. ⌜ opens (drop from (now (text .entry))) ≡ r || opens (drop to (now (text .entry))) ⌝ }
+{
+    let mut found = false;
+    let mut i = from;
+    while i < to {
+        found = found | (text[i] == b'P');
+        i += 1;
+    }
+    found
+}
+
+// Whether a text has an open setting: looked for in parts, since a payoff that has one mostly has it early.
+fn has_open(text: &[u8]) -> bool
+    ensures { λ r. ⌜ r ≡ opens (now (text .entry)) ⌝ }
+{
+    let mut at = 0;
+    while 256 <= text.len() - at {
+        if part_opens(text, at, at + 256) {
+            return true;
+        }
+        at += 256;
+    }
+    part_opens(text, at, text.len())
+}
+
+// A payoff that was read: 9, 12, 8, then its value. Its open settings, where it uses any, are filled in the table.
 pub fn evaluate_nodes(
     nodes: &mut [i64; 2560],
     count: usize,
@@ -149,8 +179,9 @@ pub fn evaluate_nodes(
     values: &[i64],
     month: Month,
     pair: Pair,
+    used: bool,
 ) -> Evaluating
-    requires { ⌜ Stands (now nodes) count ⌝ }
+    requires { ⌜ Stands (now nodes) count × (used ≡ false → Settled count (now nodes)) ⌝ }
     ensures { λ r. ⌜ EvaluateIs
         (givenOf (now (days .entry)) (span .h) (span .f) (now (factors .entry)) (now (bounds .entry)) (now (values .entry)))
         (pair .p) (pair .q) (month .0) count (now (nodes .entry)) r ⌝ }
@@ -158,7 +189,7 @@ pub fn evaluate_nodes(
     if tables::table_ok(span, factors, bounds, values) {
         if caller_ok(span, month, pair) {
             if tables::settings_ok(days) {
-                let filling = settling::settle_rows(nodes, count, days);
+                let filling = settling::settle_open(nodes, count, days, used);
                 match filling {
                     Filling::Filled => evaluated(payoffs::payoff_worth(
                         nodes,
@@ -214,6 +245,7 @@ pub fn evaluate(
             values,
             Month(month),
             Pair { p: p, q: q },
+            has_open(text),
         ),
         Reading::Refused(refusal) => Evaluating::Refused(refusal),
     }

@@ -4,5 +4,6 @@ pub mod MappedFields
 pub mod NodePasses
 pub mod PayoffNodes
 pub mod PayoffSettles
+pub mod PlainRows
 pub mod RowSettles
 pub mod SettingSums

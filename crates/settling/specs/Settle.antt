@@ -79,3 +79,7 @@ RowIs days at before after Unset = rowSettled days (rowFrom at before) ≡ false
 abbrev pub MonthIs : List ℤ → ℕ → List ℤ → List ℤ → Filling → Type 0
 MonthIs days at before after Filled = (monthSettled days at before ≡ true) × (after ≡ settleMonth days at before)
 MonthIs days at before after Unset = monthSettled days at before ≡ false
+
+-- rows that settings change nothing of, and that use none
+abbrev pub Settled : ℕ → List ℤ → Type 0
+Settled count nodes = (days : List ℤ) → SettleIs days count nodes nodes Filled

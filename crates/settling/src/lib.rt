@@ -1,12 +1,12 @@
 // A payoff's open settings filled in the node table: months summed, delays filled.
 ghost use mathlib.Core.Path.{_≡_};
-ghost use mathlib.Core.Bool.{true};
+ghost use mathlib.Core.Bool.{false, true};
 ghost use Prim.Native.Nat.{_+_, _*_, _≤_};
 ghost use lib.IntN.{pos};
 ghost use lib.ListN.{getD, length};
 ghost use Rattle.language.specs.Rules.Table.{settingsOk};
 ghost use Rattle.nodes.specs.Pass.{allRows, rowFrom};
-ghost use Rattle.settling.specs.Settle.{MonthIs, RowIs, SettleIs, monthIn, rowIn};
+ghost use Rattle.settling.specs.Settle.{MonthIs, RowIs, SettleIs, Settled, monthIn, rowIn};
 use sums::Summed;
 use tables::fill;
 use tables::fill::Filling;
@@ -67,6 +67,18 @@ pub fn settle_rows(nodes: &mut [i64], count: usize, days: &[i64]) -> Filling
                 return Filling::Unset;
             }
         }
+    }
+    Filling::Filled
+}
+
+// The same where it is known whether the rows have open settings: if none, they are settled as they stand.
+pub fn settle_open(nodes: &mut [i64], count: usize, days: &[i64], used: bool) -> Filling
+    requires { ⌜ (5 * count ≤ length (now nodes)) × (settingsOk (now days) ≡ true) × (allRows rowIn count (now nodes) ≡ true)
+        × (used ≡ false → Settled count (now nodes)) ⌝ }
+    ensures { λ r. ⌜ SettleIs (now (days .entry)) count (now (nodes .entry)) (now (nodes .exit)) r ⌝ }
+{
+    if used {
+        return settle_rows(nodes, count, days);
     }
     Filling::Filled
 }

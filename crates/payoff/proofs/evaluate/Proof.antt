@@ -1,8 +1,8 @@
-use mathlib.Core.Path.{subst}
+use mathlib.Core.Path.{_∙_, subst, sym}
 use mir.Facts.{toZ-ofZ}
 use Rattle.language.specs.Text.Letters.{payoffForm}
 use Rattle.language.specs.Text.Reader.{readText}
-use Rattle.payoff.proofs.Evaluations.{evaluate-is, evaluate-refuses, read-stands}
+use Rattle.payoff.proofs.Evaluations.{evaluate-is, evaluate-refuses, read-settled, read-stands}
 use Rattle.payoff.specs.Evaluating.{givenOf}
 use Rattle.text.specs.ReadInto.{ReadInto}
 use borrow.Author.Needs.{needs}
@@ -18,20 +18,25 @@ read-payoff-requires c κs = search needs
 enum-known-reading : tie.Need-enum-known-reading
 enum-known-reading c = search needs
 
+has-open-requires : tie.Need-has-open-requires
+has-open-requires c κs = search needs
+
 evaluate-nodes-requires : tie.Need-evaluate-nodes-requires
 evaluate-nodes-requires c κs =
-    let s = c .before .before .before .before .before .before .before .before in
-    let a = s .args in
-    read-stands (a .text .now) _ _ (subst (ReadInto payoffForm (readText payoffForm (a .text .now)) (c .before .before .before .before .before .read-payoff .last .1 .0)) (c .before .before .reading .given .1) (c .before .before .before .before .before .read-payoff .ensures .0))
+    let a = c .before .before .before .before .before .before .before .before .before .args in
+    let r = c .before .before .before .before .before .before .read-payoff in
+    let u = subst (ReadInto payoffForm (readText payoffForm (a .text .now)) (r .last .1 .0)) (c .before .before .before .reading .given .1) (r .ensures .0) in
+    (read-stands (a .text .now) _ _ u, λ e. read-settled (a .text .now) _ _ u (sym (c .has-open .ensures) ∙ e))
 
 enum-known-reading-2 : tie.Need-enum-known-reading-2
 enum-known-reading-2 c = search needs
 
 returns : tie.Need-returns
 returns c =
-    let s = c .before .before .before .before .before .before .before .before .before in
+    let s = c .before .before .before .before .before .before .before .before .before .before in
     let a = s .args in
-    evaluate-is (a .text .now) (c .before .before .before .before .before .before .read-payoff .last .1 .0) _ (subst (ReadInto payoffForm (readText payoffForm (a .text .now)) (c .before .before .before .before .before .before .read-payoff .last .1 .0)) (c .before .before .before .reading .given .1) (c .before .before .before .before .before .before .read-payoff .ensures .0)) (givenOf (a .days .now) (a .h) (a .f) (a .factors .now) (a .bounds .now) (a .values .now)) (a .p) (a .q) (a .month)
+    let r = c .before .before .before .before .before .before .before .read-payoff in
+    evaluate-is (a .text .now) (r .last .1 .0) _ (subst (ReadInto payoffForm (readText payoffForm (a .text .now)) (r .last .1 .0)) (c .before .before .before .before .reading .given .1) (r .ensures .0)) (givenOf (a .days .now) (a .h) (a .f) (a .factors .now) (a .bounds .now) (a .values .now)) (a .p) (a .q) (a .month)
     (rw (toZ-ofZ (s .fits .h), toZ-ofZ (s .fits .f), toZ-ofZ (s .fits .month), toZ-ofZ (s .fits .p), toZ-ofZ (s .fits .q)) at (c .evaluate-nodes .ensures))
 
 returns-2 : tie.Need-returns-2
@@ -47,6 +52,7 @@ evaluate-spec =
     slice-aggregate-read-payoff
     read-payoff-requires
     enum-known-reading
+    has-open-requires
     evaluate-nodes-requires
     enum-known-reading-2
     returns

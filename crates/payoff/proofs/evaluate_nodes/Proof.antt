@@ -20,11 +20,11 @@ caller-ok-requires c κs = search needs
 settings-ok-requires : tie.Need-settings-ok-requires
 settings-ok-requires c κs = search needs
 
-settle-rows-requires : tie.Need-settle-rows-requires
-settle-rows-requires c κs =
+settle-open-requires : tie.Need-settle-open-requires
+settle-open-requires c κs =
     let s = c .before .before .before .before .before .before .before in
     let e = sym (c .before .before .settings-ok .ensures) ∙ c .before .if3 .taken in
-    (omega (arith, evaluations.standing-rows (s .pre .standing)), e, evaluations.standing-in (s .pre .standing))
+    (omega (arith, evaluations.standing-rows (s .pre .0 .standing)), e, evaluations.standing-in (s .pre .0 .standing), s .pre .1)
 
 enum-told : tie.Need-enum-told
 enum-told c = search needs
@@ -36,8 +36,8 @@ payoff-worth-requires c κs =
     let t = sym (c .before .before .before .before .before .before .before .before .before .before .table-ok .ensures) ∙ c .before .before .before .before .before .before .before .before .before .if1 .taken in
     let m = sym (c .before .before .before .before .before .before .before .before .caller-ok .ensures) ∙ c .before .before .before .before .before .before .before .if2 .taken in
     let e = sym (c .before .before .before .before .before .before .settings-ok .ensures) ∙ c .before .before .before .before .before .if3 .taken in
-    let u = subst (SettleIs (a .days .now) (a .count) (a .nodes .now) (c .before .before .before .settle-rows .last .0)) (c .before .enum-told .given .1) (c .before .before .before .settle-rows .ensures) in
-    let w = evaluations.walked (a .days .now) (a .span .h) (a .span .f) (a .factors .now) (a .bounds .now) (a .values .now) (a .pair .p) (a .pair .q) (a .month .0) (a .count) (a .nodes .now) t m e u (s .pre) in
+    let u = subst (SettleIs (a .days .now) (a .count) (a .nodes .now) (c .before .before .before .settle-open .last .0)) (c .before .enum-told .given .1) (c .before .before .before .settle-open .ensures) in
+    let w = evaluations.walked (a .days .now) (a .span .h) (a .span .f) (a .factors .now) (a .bounds .now) (a .values .now) (a .pair .p) (a .pair .q) (a .month .0) (a .count) (a .nodes .now) t m e u (s .pre .0) in
     let b = and-e (between (pos 0) (a .span .f) (a .month .0)) (pairOk (a .pair .p) (a .pair .q)) m in
     (table-read (a .span .h) (a .span .f) (a .factors .now) (a .bounds .now) (a .values .now) t, table-pays (a .span .h) (a .span .f) (a .factors .now) (a .bounds .now) (a .values .now) t, record { known = tt; within = omega arith }, month-known (a .span .f) (a .month .0) (b .0) .0, pair-known (a .pair .p) (a .pair .q) (b .1), w .0, w .1)
 
@@ -54,7 +54,7 @@ returns c =
     let t = sym (c .before .before .before .before .before .before .before .before .before .before .before .before .table-ok .ensures) ∙ c .before .before .before .before .before .before .before .before .before .before .before .if1 .taken in
     let m = sym (c .before .before .before .before .before .before .before .before .before .before .caller-ok .ensures) ∙ c .before .before .before .before .before .before .before .before .before .if2 .taken in
     let e = sym (c .before .before .before .before .before .before .before .before .settings-ok .ensures) ∙ c .before .before .before .before .before .before .before .if3 .taken in
-    let u = subst (SettleIs (a .days .now) (a .count) (a .nodes .now) (c .before .before .before .before .before .settle-rows .last .0)) (c .before .before .before .enum-told .given .1) (c .before .before .before .before .before .settle-rows .ensures) in
+    let u = subst (SettleIs (a .days .now) (a .count) (a .nodes .now) (c .before .before .before .before .before .settle-open .last .0)) (c .before .before .before .enum-told .given .1) (c .before .before .before .before .before .settle-open .ensures) in
     evaluations.valued (a .days .now) (a .span .h) (a .span .f) (a .factors .now) (a .bounds .now) (a .values .now) (a .pair .p) (a .pair .q) (a .month .0) (a .count) (a .nodes .now) t m e u (c .evaluated .ensures ∙ c .before .payoff-worth .ensures)
 
 returns-2 : tie.Need-returns-2
@@ -64,7 +64,7 @@ returns-2 c =
     let t = sym (c .before .before .before .before .before .before .before .before .before .table-ok .ensures) ∙ c .before .before .before .before .before .before .before .before .if1 .taken in
     let m = sym (c .before .before .before .before .before .before .before .caller-ok .ensures) ∙ c .before .before .before .before .before .before .if2 .taken in
     let e = sym (c .before .before .before .before .before .settings-ok .ensures) ∙ c .before .before .before .before .if3 .taken in
-    let u = subst (SettleIs (a .days .now) (a .count) (a .nodes .now) (c .before .before .settle-rows .last .0)) (c .enum-told2 .given .1) (c .before .before .settle-rows .ensures) in
+    let u = subst (SettleIs (a .days .now) (a .count) (a .nodes .now) (c .before .before .settle-open .last .0)) (c .enum-told2 .given .1) (c .before .before .settle-open .ensures) in
     evaluations.unset (a .days .now) (a .span .h) (a .span .f) (a .factors .now) (a .bounds .now) (a .values .now) (a .pair .p) (a .pair .q) (a .month .0) (a .count) (a .nodes .now) t m e u
 
 returns-3 : tie.Need-returns-3
@@ -95,7 +95,7 @@ evaluate-nodes-spec =
     table-ok-requires
     caller-ok-requires
     settings-ok-requires
-    settle-rows-requires
+    settle-open-requires
     enum-told
     payoff-worth-requires
     evaluated-requires
