@@ -1,7 +1,8 @@
 // The sheet as a call on bytes.
 ghost use mathlib.Core.Path.{_≡_};
 ghost use mathlib.Core.Bool.{_&&_, _||_};
-ghost use Prim.Native.Nat.{min, suc, _≤_};
+ghost use mathlib.Core.List.{List};
+ghost use Prim.Native.Nat.{min, suc, ℕ, _≤_};
 ghost use lib.Dec.{leb};
 ghost use lib.IntN.{natAbs, pos};
 ghost use lib.ListN.{length};
@@ -208,7 +209,20 @@ fn long_sheet(input: &[u8], out: &mut [u8]) -> Written
     }
 }
 
-// With room for the values of two labels: less to clear. A sheet that has more is read again.
+// What was answered; a sheet that shorter lists did not hold is read again into the longest.
+fn or_long(tried: Tried, input: &[u8], out: &mut [u8]) -> Written
+    requires { ⌜ length (now input) ≤ 60_000 ⌝ }
+    ensures { λ r. ⌜ ((months places : ℕ) (before : List ℕ) → TriedIs (now (input .entry)) months places before (now (out .entry)) tried
+        → (now (out .exit) ≡ sheetCall (now (input .entry)) before .buffer)
+        × (writtenAnswer r ≡ sheetCall (now (input .entry)) before .answer)) ⌝ }
+{
+    match tried {
+        Tried::Answered(written) => written,
+        Tried::Crowded => long_sheet(input, out),
+    }
+}
+
+// With room for the values of two labels: less to clear.
 fn short_sheet(input: &[u8], out: &mut [u8]) -> Written
     requires { ⌜ length (now input) ≤ 60_000 ⌝ }
     ensures { λ r. ⌜ (now (out .exit) ≡ sheetCall (now (input .entry)) (now (out .entry)) .buffer)
@@ -217,10 +231,7 @@ fn short_sheet(input: &[u8], out: &mut [u8]) -> Written
     let mut factors = [0i64; 601];
     let mut values = [0i64; 1344];
     let tried = answer_in(input, &mut factors, &mut values, out);
-    match tried {
-        Tried::Answered(written) => written,
-        Tried::Crowded => long_sheet(input, out),
-    }
+    or_long(tried, input, out)
 }
 
 // With room for the few numbers that a sheet of some lines has.
@@ -232,10 +243,7 @@ fn brief_sheet(input: &[u8], out: &mut [u8]) -> Written
     let mut factors = [0i64; 64];
     let mut values = [0i64; 128];
     let tried = answer_in(input, &mut factors, &mut values, out);
-    match tried {
-        Tried::Answered(written) => written,
-        Tried::Crowded => long_sheet(input, out),
-    }
+    or_long(tried, input, out)
 }
 
 // The lines of a sheet's answer, or its one line `refused,` with the number, from the first byte of `out` on.

@@ -1,9 +1,5 @@
 -- `short_sheet` meets its contract.
 use borrow.Author.Needs.{needs}
-use mathlib.Core.Path.{_≡_, subst}
-use Rattle.language.specs.Sheet.{sheetCall}
-use Rattle.sheets.specs.Held.{TriedIs}
-use Rattle.writer.specs.Answers.{writtenAnswer}
 use Rattle.sheets.proofs.short_sheet.Statement.{statement}
 use Rattle.sheets.proofs.short_sheet.Tie as tie
 
@@ -16,33 +12,14 @@ slice-aggregate-answer-in-2 c = search needs
 answer-in-requires : tie.Need-answer-in-requires
 answer-in-requires c κs = search needs
 
-enum-known-tried : tie.Need-enum-known-tried
-enum-known-tried c = search needs
-
-enum-told : tie.Need-enum-told
-enum-told c = search needs
-
-long-sheet-requires : tie.Need-long-sheet-requires
-long-sheet-requires c κs = search needs
+or-long-requires : tie.Need-or-long-requires
+or-long-requires c κs = search needs
 
 same-length : tie.Need-same-length
 same-length c = search needs
 
 returns : tie.Need-returns
-returns c =
-    let s = c .before .before .before .before .before .before .before .before .before .before .before .before .before in
-    let r = c .before .before .before .before .before .before .before .answer-in in
-    subst (TriedIs (s .args .input .now) _ _ (s .args .out .now) (r .last .1 .1 .1 .0)) (c .before .tried .given .1) (r .ensures)
-
-same-length-2 : tie.Need-same-length-2
-same-length-2 c = search needs
-
-returns-2 : tie.Need-returns-2
-returns-2 c =
-    let s = c .before .before .before .before .before .before .before .before .before .before .before .before .before .before .before .before in
-    let r = c .before .before .before .before .before .before .before .before .before .before .answer-in in
-    let t = subst (TriedIs (s .args .input .now) _ _ (s .args .out .now) (r .last .1 .1 .1 .0)) (c .before .before .before .before .enum-told .given .1) (r .ensures) in
-    subst (λ o. (c .before .before .long-sheet .last .1 .0 ≡ sheetCall (s .args .input .now) o .buffer) × (writtenAnswer (c .before .before .long-sheet .result) ≡ sheetCall (s .args .input .now) o .answer)) (t .0) (c .before .before .long-sheet .ensures)
+returns c = c .before .before .or-long .ensures _ _ _ (c .before .before .before .before .before .before .before .before .answer-in .ensures)
 
 pub short-sheet-spec : {M : Type 1} → statement M
 short-sheet-spec =
@@ -51,10 +28,6 @@ short-sheet-spec =
     slice-aggregate-answer-in
     slice-aggregate-answer-in-2
     answer-in-requires
-    enum-known-tried
-    enum-told
-    long-sheet-requires
+    or-long-requires
     same-length
-    returns
-    same-length-2
-    returns-2)
+    returns)
