@@ -154,7 +154,7 @@ fn part_opens(text: &[u8], from: usize, to: usize) -> bool
     found
 }
 
-// Whether a text has an open setting: looked for in parts, since a payoff that has one mostly has it early.
+// Whether a `P` stands in a text, in parts, so that a long text with settings is not looked through to its end.
 fn has_open(text: &[u8]) -> bool
     ensures { λ r. ⌜ r ≡ opens (now (text .entry)) ⌝ }
 {
