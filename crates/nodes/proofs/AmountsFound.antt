@@ -1,8 +1,8 @@
 -- An amount or test that lies in the table is found there, and a walk of it stays in the table.
-use Prim.Native.Nat.{_+_, _<_, _≤_, suc, zero, ℕ}
+use Prim.Native.Nat.{_*_, _+_, _≤_, suc, zero, ℕ}
 use lib.IntN.{pos, ℤ}
-use lib.ListN.{getD}
-use mathlib.Core.List.{List, [], _∷_}
+use lib.ListN.{drop, getD, length, length-append, length-drop}
+use mathlib.Core.List.{List, [], _++_, _∷_}
 use mathlib.Core.Path.{_∙_, _≡_, ap, ap₂, refl, subst}
 use native.Mathlib.Omega.{arith}
 use Rattle.language.specs.Limits.{maxNodes}
@@ -12,12 +12,12 @@ use Rattle.language.specs.Text.Letters.{AmountLetter, Form, Letter, TestLetter,
 use Rattle.language.specs.Text.Reader.{Trees, end, node}
 use Rattle.language.specs.Text.Trees.{Amount, Test, choose, conjunction, difference, disjunction, equal, index, less, negation, number, product, quotient, sum}
 use Rattle.language.specs.Text.Typed.{amountTree, testTree}
-use Rattle.nodes.proofs.Laid.{Inner, IsNode, Laid, inner, laid-child, laid-slot}
+use Rattle.nodes.proofs.Laid.{Inner, IsNode, Laid, inner, laid-child, laid-slot, rows-length}
 use Rattle.nodes.specs.Found.{amountAt, testAt}
 use Rattle.nodes.specs.Letters.{amountLetter, testLetter}
-use Rattle.nodes.specs.Rows.{behindFirst, countOf, fieldSlots, lastSlots, slotsOf}
+use Rattle.nodes.specs.Rows.{behindFirst, countOf, fieldSlots, lastSlots, rows, slotsOf}
 use Rattle.nodes.specs.Stands.{AmountStands, TestStands}
-use Rattle.nodes.specs.Table.{linkAt, natOf, slotAt}
+use Rattle.nodes.specs.Table.{RowIn, linkAt, natOf, slotAt}
 
 module _ {P M : Type 0} (month : M → Field) where
   -- an amount's or a test's tree comes first, then the others
@@ -46,9 +46,11 @@ pub record Finds {A : Type 0} (found x : A) (stands : Type 0) : Type 0 where
 
 module _ {P : Type 0} (form : Form P) (nodes : List ℤ) where
   -- the room and the letter of a node
-  pub room : {at : ℕ} {t : Trees P} (l : Letter P) (fs : _) (c : Trees P) → Laid form nodes at (node l fs c t) → at < maxNodes
+  pub room : {at : ℕ} {t : Trees P} (l : Letter P) (fs : _) (c : Trees P) → Laid form nodes at (node l fs c t) → RowIn nodes at
   unfolding countOf
-  room l fs c h = omega (arith, h .room)
+  room {at} {t} l fs c h =
+      let n : length (drop (at * 5) nodes) ≡ length (rows form (node l fs c t) ++ h .rest) = ap length (h .is) in
+      (omega (arith, h .room), omega (arith, n, length-drop (at * 5) nodes, length-append (rows form (node l fs c t)) (h .rest), rows-length form (node l fs c t)))
 
   pub byte-at : {at : ℕ} {t : Trees P} (l : Letter P) (fs : _) (c : Trees P) → Laid form nodes at (node l fs c t) → slotAt nodes at 0 ≡ pos (rowOf form l .letter)
   byte-at l fs c h = laid-slot form nodes l fs h 0 (omega arith)

@@ -1,5 +1,5 @@
 -- Every node that a walk from here comes to stands in the table.
-use Prim.Native.Nat.{_+_, _<_, suc, zero, ℕ}
+use Prim.Native.Nat.{_+_, suc, zero, ℕ}
 use lib.Dec.{T}
 use lib.IntN.{ℤ}
 use lib.Signed.{nonNeg}
@@ -14,7 +14,7 @@ use Rattle.nodes.specs.declared.PlanLetter.the-variants.{Both, Later, No
 use Rattle.nodes.specs.declared.TestLetter.{TestLetter}
 use Rattle.nodes.specs.declared.TestLetter.the-variants.{Conjunction, Disjunction, Equal, Less, Negation, NoTest}
 use Rattle.nodes.specs.Letters.{amountLetter, payoffLetter, planLetter, testLetter}
-use Rattle.nodes.specs.Table.{linkAt, slotAt}
+use Rattle.nodes.specs.Table.{RowIn, linkAt, slotAt}
 
 -- of what holds at a node's children, what its letter asks: t, x of the first, y of the second, z of the third
 abbrev pub amountAsks : AmountLetter → Type 0 → Type 0 → Type 0 → Type 0 → Type 0
@@ -42,7 +42,7 @@ Forward nodes at k = T (nonNeg (slotAt nodes at k))
 unfoldable mutual
   pub AmountStands : ℕ → List ℤ → ℕ → Type 0
   AmountStands zero nodes at = ⊥
-  AmountStands (suc left) nodes at = (at < maxNodes) × amountAsks (amountLetter (slotAt nodes at 0))
+  AmountStands (suc left) nodes at = RowIn nodes at × amountAsks (amountLetter (slotAt nodes at 0))
       (TestStands left nodes (at + 1))
       (AmountStands left nodes (at + 1))
       (Forward nodes at 3 × AmountStands left nodes (linkAt nodes at 3))
@@ -50,7 +50,7 @@ unfoldable mutual
 
   pub TestStands : ℕ → List ℤ → ℕ → Type 0
   TestStands zero nodes at = ⊥
-  TestStands (suc left) nodes at = (at < maxNodes) × testAsks (testLetter (slotAt nodes at 0))
+  TestStands (suc left) nodes at = RowIn nodes at × testAsks (testLetter (slotAt nodes at 0))
       (AmountStands left nodes (at + 1))
       (Forward nodes at 3 × AmountStands left nodes (linkAt nodes at 3))
       (TestStands left nodes (at + 1))
@@ -68,7 +68,7 @@ planAsks NoPlan a t x y z = Unit {0}
 
 unfoldable pub PlanStands : ℕ → List ℤ → ℕ → Type 0
 PlanStands zero nodes at = ⊥
-PlanStands (suc left) nodes at = (at < maxNodes) × planAsks (planLetter (slotAt nodes at 0))
+PlanStands (suc left) nodes at = RowIn nodes at × planAsks (planLetter (slotAt nodes at 0))
     (AmountStands maxNodes nodes (at + 1))
     (TestStands maxNodes nodes (at + 1))
     (PlanStands left nodes (at + 1))
@@ -86,7 +86,7 @@ payoffAsks NoPayoff a t x y z = Unit {0}
 
 unfoldable pub PayoffStands : ℕ → List ℤ → ℕ → Type 0
 PayoffStands zero nodes at = ⊥
-PayoffStands (suc left) nodes at = (at < maxNodes) × payoffAsks (payoffLetter (slotAt nodes at 0))
+PayoffStands (suc left) nodes at = RowIn nodes at × payoffAsks (payoffLetter (slotAt nodes at 0))
     (AmountStands maxNodes nodes (at + 1))
     (TestStands maxNodes nodes (at + 1))
     (PayoffStands left nodes (at + 1))

@@ -4,7 +4,7 @@ ghost use Prim.Native.Nat.{ℕ, _+_, _<_};
 ghost use lib.Dec.{T};
 ghost use lib.IntN.{ℤ};
 ghost use lib.Signed.{nonNeg};
-ghost use Rattle.nodes.specs.Table.{slotAt, linkAt};
+ghost use Rattle.nodes.specs.Table.{RowIn, slotAt, linkAt};
 ghost use Rattle.nodes.specs.Letters.{planLetter, payoffLetter, amountLetter, testLetter};
 
 pub enum PlanLetter {
@@ -48,17 +48,17 @@ pub enum TestLetter {
 }
 
 // One number of a node's row.
-pub fn slot(nodes: &[i64; 2560], at: usize, k: usize) -> i64
-    requires { ⌜ (at < 512) × (k < 5) ⌝ }
-    ensures { λ r. ⌜ r ≡ slotAt (now (nodes .entry)) at k ⌝ }
+pub fn slot(nodes: &&[i64], at: usize, k: usize) -> i64
+    requires { ⌜ RowIn (now (now nodes)) at × (k < 5) ⌝ }
+    ensures { λ r. ⌜ r ≡ slotAt (now (now (nodes .entry))) at k ⌝ }
 {
     nodes[at * 5 + k]
 }
 
 // Where a node's second or third child stands.
-pub fn link(nodes: &[i64; 2560], at: usize, k: usize) -> usize
-    requires { ⌜ (at < 512) × (k < 5) × T (nonNeg (slotAt (now nodes) at k)) ⌝ }
-    ensures { λ r. ⌜ r ≡ linkAt (now (nodes .entry)) at k ⌝ }
+pub fn link(nodes: &&[i64], at: usize, k: usize) -> usize
+    requires { ⌜ RowIn (now (now nodes)) at × (k < 5) × T (nonNeg (slotAt (now (now nodes)) at k)) ⌝ }
+    ensures { λ r. ⌜ r ≡ linkAt (now (now (nodes .entry))) at k ⌝ }
 {
     let x = slot(nodes, at, k);
     at + x as usize

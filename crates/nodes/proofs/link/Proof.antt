@@ -20,7 +20,7 @@ cast-result c =
 add-result : tie.Need-add-result
 add-result c =
     let f : SFits w64 (c .slot .result) = search needs in
-    omega (arith, index-reads (c .slot .result) (slotAt (c .before .args .nodes .now) (c .before .args .at) (c .before .args .k)) f (c .slot .ensures) (c .before .pre .2), natOf-below (slotAt (c .before .args .nodes .now) (c .before .args .at) (c .before .args .k)) (subst (SFits w64) (c .slot .ensures) f))
+    omega (arith, index-reads (c .slot .result) (slotAt (c .before .args .nodes .now .now) (c .before .args .at) (c .before .args .k)) f (c .slot .ensures) (c .before .pre .2), natOf-below (slotAt (c .before .args .nodes .now .now) (c .before .args .at) (c .before .args .k)) (subst (SFits w64) (c .slot .ensures) f))
 
 returns : tie.Need-returns
 unfolding linkAt

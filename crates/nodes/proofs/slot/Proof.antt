@@ -18,14 +18,14 @@ add-result c = search needs
 mul-result-2 : tie.Need-mul-result-2
 mul-result-2 c = search needs
 
-element-copy-out-result : tie.Need-element-copy-out-result
-element-copy-out-result c = search needs
+index-1-result : tie.Need-index-1-result
+index-1-result c = search needs
 
 returns : tie.Need-returns
 unfolding slotAt
 returns c =
-    let f : SFits w64 (getD (c .before .args .nodes .now) (c .before .args .at * 5 + c .before .args .k) (pos 0)) = search needs in
+    let f : SFits w64 (getD (c .before .args .nodes .now .now) (c .before .args .at * 5 + c .before .args .k) (pos 0)) = search needs in
     toZ-ofZ f
 
 pub slot-spec : {M : Type 1} → statement M
-slot-spec = tie.close (tie.spec mul-result add-result mul-result-2 element-copy-out-result returns)
+slot-spec = tie.close (tie.spec mul-result add-result mul-result-2 index-1-result returns)
