@@ -8,13 +8,12 @@ use mir.Syntax.{w64}
 use mir.Val.{SFits, ofZ}
 use native.Mathlib.Omega.{arith}
 use Rattle.integers.proofs.Locals.{rd}
-use Rattle.language.specs.Limits.{maxNodes}
 use Rattle.language.specs.Text.Trees.{Amount, Test}
 use Rattle.nodes.proofs.Signed.{key}
 use Rattle.nodes.specs.Found.{amountAt, amountBy, offsetOf, testAt, testBy}
 use Rattle.nodes.specs.Letters.{amountLetter, testLetter}
 use Rattle.nodes.specs.Stands.{AmountStands, Forward, TestStands, amountAsks, testAsks}
-use Rattle.nodes.specs.Table.{linkAt, slotAt}
+use Rattle.nodes.specs.Table.{RowIn, linkAt, slotAt}
 use Rattle.nodes.specs.declared.AmountLetter.{AmountLetter}
 use Rattle.nodes.specs.declared.AmountLetter.the-variants as amount
 use Rattle.nodes.specs.declared.TestLetter.{TestLetter}
@@ -56,14 +55,14 @@ testStandsBy nodes left at l =
 
 pub record AmountNode (values nodes : List ℤ) (r left at : ℕ) (l : AmountLetter) : Type 0 where
   pub some : left ≡ 0 → ⊥
-  pub inside : at < maxNodes
+  pub inside : RowIn nodes at
   pub stands : amountStandsBy nodes left at l
   pub tree : amountAt offsetOf left nodes at ≡ amountOf nodes left at l
   pub fine : Fine values r (amountOf nodes left at l)
 
 pub record TestNode (values nodes : List ℤ) (r left at : ℕ) (l : TestLetter) : Type 0 where
   pub some : left ≡ 0 → ⊥
-  pub inside : at < maxNodes
+  pub inside : RowIn nodes at
   pub stands : testStandsBy nodes left at l
   pub tree : testAt offsetOf left nodes at ≡ testOf nodes left at l
   pub fine : FineTest values r (testOf nodes left at l)
@@ -91,20 +90,20 @@ module _ (nodes : List ℤ) (left at : ℕ) where
   unfolding TestStands
   test-some h e = absurd (subst (λ n. TestStands n nodes at) e h)
 
-amount-asks : (nodes : List ℤ) (left at : ℕ) → AmountStands left nodes at → (at < maxNodes) × amountStandsBy nodes left at (amountLetter (slotAt nodes at 0))
+amount-asks : (nodes : List ℤ) (left at : ℕ) → AmountStands left nodes at → RowIn nodes at × amountStandsBy nodes left at (amountLetter (slotAt nodes at 0))
 unfolding AmountStands
 amount-asks nodes zero at h = absurd h
 amount-asks nodes (suc left) at h = rw (less-one left) h
 
-test-asks : (nodes : List ℤ) (left at : ℕ) → TestStands left nodes at → (at < maxNodes) × testStandsBy nodes left at (testLetter (slotAt nodes at 0))
+test-asks : (nodes : List ℤ) (left at : ℕ) → TestStands left nodes at → RowIn nodes at × testStandsBy nodes left at (testLetter (slotAt nodes at 0))
 unfolding TestStands
 test-asks nodes zero at h = absurd h
 test-asks nodes (suc left) at h = rw (less-one left) h
 
-pub amount-inside : (nodes : List ℤ) (left at : ℕ) → AmountStands left nodes at → at < maxNodes
+pub amount-inside : (nodes : List ℤ) (left at : ℕ) → AmountStands left nodes at → RowIn nodes at
 amount-inside nodes left at h = amount-asks nodes left at h .0
 
-pub test-inside : (nodes : List ℤ) (left at : ℕ) → TestStands left nodes at → at < maxNodes
+pub test-inside : (nodes : List ℤ) (left at : ℕ) → TestStands left nodes at → RowIn nodes at
 test-inside nodes left at h = test-asks nodes left at h .0
 
 -- s is the letter's byte as the code reads it, l the letter that the code finds, m that of the arm

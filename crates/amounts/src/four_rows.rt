@@ -4,16 +4,16 @@ ghost use Prim.Native.Nat.{ℕ, _+_, _<_};
 ghost use lib.IntN.{pos, natAbs, _+ℤ_};
 ghost use lib.ListN.{getD};
 ghost use Rattle.integers.specs.Rounding.{floorZ};
-ghost use Rattle.nodes.specs.Table.{natOf, slotAt};
+ghost use Rattle.nodes.specs.Table.{RowIn, natOf, slotAt};
 ghost use Rattle.amounts.specs.Fine.{Divides, Reading};
 ghost use Rattle.amounts.specs.FourMonths.{FourIn, penceIn};
 use crate::four::Four;
 use crate::rows;
 use integers::Month;
 
-pub fn number(nodes: &[i64; 2560], at: usize) -> Four
-    requires { ⌜ at < 512 ⌝ }
-    ensures { λ r. ⌜ ((k : ℕ) → k < 4 → penceIn r k ≡ slotAt (now (nodes .entry)) at 1) ⌝ }
+pub fn number(nodes: &&[i64], at: usize) -> Four
+    requires { ⌜ RowIn (now (now nodes)) at ⌝ }
+    ensures { λ r. ⌜ ((k : ℕ) → k < 4 → penceIn r k ≡ slotAt (now (now (nodes .entry))) at 1) ⌝ }
 {
     let n = rows::number(nodes, at);
     Four {
@@ -24,9 +24,9 @@ pub fn number(nodes: &[i64; 2560], at: usize) -> Four
     }
 }
 
-pub fn reading(nodes: &[i64; 2560], values: &[i64], month: Month, at: usize) -> Four
-    requires { ⌜ (at < 512) × FourIn (month .0) × ((k : ℕ) → k < 4 → Reading (now values) (natOf (month .0) + k) (slotAt (now nodes) at 2)) ⌝ }
-    ensures { λ r. ⌜ ((k : ℕ) → k < 4 → penceIn r k ≡ getD (now (values .entry)) (natAbs (pos (natOf (month .0) + k) +ℤ slotAt (now (nodes .entry)) at 2)) (pos 0)) ⌝ }
+pub fn reading(nodes: &&[i64], values: &&[i64], month: Month, at: usize) -> Four
+    requires { ⌜ RowIn (now (now nodes)) at × FourIn (month .0) × ((k : ℕ) → k < 4 → Reading (now (now values)) (natOf (month .0) + k) (slotAt (now (now nodes)) at 2)) ⌝ }
+    ensures { λ r. ⌜ ((k : ℕ) → k < 4 → penceIn r k ≡ getD (now (now (values .entry))) (natAbs (pos (natOf (month .0) + k) +ℤ slotAt (now (now (nodes .entry))) at 2)) (pos 0)) ⌝ }
 {
     Four {
         a: rows::reading(nodes, values, integers::later(month, Month(0)), at),
@@ -36,9 +36,9 @@ pub fn reading(nodes: &[i64; 2560], values: &[i64], month: Month, at: usize) -> 
     }
 }
 
-pub fn over(nodes: &[i64; 2560], at: usize, x: Four) -> Four
-    requires { ⌜ (at < 512) × Divides (natOf (slotAt (now nodes) at 1)) ⌝ }
-    ensures { λ r. ⌜ ((k : ℕ) → k < 4 → penceIn r k ≡ floorZ (penceIn x k) (natOf (slotAt (now (nodes .entry)) at 1))) ⌝ }
+pub fn over(nodes: &&[i64], at: usize, x: Four) -> Four
+    requires { ⌜ RowIn (now (now nodes)) at × Divides (natOf (slotAt (now (now nodes)) at 1)) ⌝ }
+    ensures { λ r. ⌜ ((k : ℕ) → k < 4 → penceIn r k ≡ floorZ (penceIn x k) (natOf (slotAt (now (now (nodes .entry))) at 1))) ⌝ }
 {
     Four {
         a: rows::over(nodes, at, x.a),

@@ -13,9 +13,9 @@ use nodes::AmountLetter;
 use nodes::TestLetter;
 
 // The amount at a node: a number or an index without a call.
-pub fn operands(nodes: &[i64; 2560], values: &[i64], month: Month, at: usize, left: usize) -> Four
-    requires { ⌜ FourIn (month .0) × AmountStands left (now nodes) at × FineFour (now values) (natOf (month .0)) (amountAt offsetOf left (now nodes) at) ⌝ }
-    ensures { λ r. ⌜ FourAre (now (values .entry)) (natOf (month .0)) (amountAt offsetOf left (now (nodes .entry)) at) r ⌝ }
+pub fn operands(nodes: &&[i64], values: &&[i64], month: Month, at: usize, left: usize) -> Four
+    requires { ⌜ FourIn (month .0) × AmountStands left (now (now nodes)) at × FineFour (now (now values)) (natOf (month .0)) (amountAt offsetOf left (now (now nodes)) at) ⌝ }
+    ensures { λ r. ⌜ FourAre (now (now (values .entry))) (natOf (month .0)) (amountAt offsetOf left (now (now (nodes .entry))) at) r ⌝ }
 {
     let x = nodes::slot(nodes, at, 0);
     match x {
@@ -26,9 +26,9 @@ pub fn operands(nodes: &[i64; 2560], values: &[i64], month: Month, at: usize, le
 }
 
 // The amount at a node of any letter.
-pub fn amounts(nodes: &[i64; 2560], values: &[i64], month: Month, at: usize, left: usize) -> Four
-    requires { ⌜ FourIn (month .0) × AmountStands left (now nodes) at × FineFour (now values) (natOf (month .0)) (amountAt offsetOf left (now nodes) at) ⌝ }
-    ensures { λ r. ⌜ FourAre (now (values .entry)) (natOf (month .0)) (amountAt offsetOf left (now (nodes .entry)) at) r ⌝ }
+pub fn amounts(nodes: &&[i64], values: &&[i64], month: Month, at: usize, left: usize) -> Four
+    requires { ⌜ FourIn (month .0) × AmountStands left (now (now nodes)) at × FineFour (now (now values)) (natOf (month .0)) (amountAt offsetOf left (now (now nodes)) at) ⌝ }
+    ensures { λ r. ⌜ FourAre (now (now (values .entry))) (natOf (month .0)) (amountAt offsetOf left (now (now (nodes .entry))) at) r ⌝ }
 {
     let letter = nodes::amount_letter(nodes::slot(nodes, at, 0));
     match letter {
@@ -69,9 +69,9 @@ pub fn amounts(nodes: &[i64; 2560], values: &[i64], month: Month, at: usize, lef
 }
 
 // Whether the test at a node holds. `Y` and `V` try both sides.
-pub fn tests(nodes: &[i64; 2560], values: &[i64], month: Month, at: usize, left: usize) -> Held
-    requires { ⌜ FourIn (month .0) × TestStands left (now nodes) at × FineFourTest (now values) (natOf (month .0)) (testAt offsetOf left (now nodes) at) ⌝ }
-    ensures { λ r. ⌜ HeldAre (now (values .entry)) (natOf (month .0)) (testAt offsetOf left (now (nodes .entry)) at) r ⌝ }
+pub fn tests(nodes: &&[i64], values: &&[i64], month: Month, at: usize, left: usize) -> Held
+    requires { ⌜ FourIn (month .0) × TestStands left (now (now nodes)) at × FineFourTest (now (now values)) (natOf (month .0)) (testAt offsetOf left (now (now nodes)) at) ⌝ }
+    ensures { λ r. ⌜ HeldAre (now (now (values .entry))) (natOf (month .0)) (testAt offsetOf left (now (now (nodes .entry))) at) r ⌝ }
 {
     let letter = nodes::test_letter(nodes::slot(nodes, at, 0));
     match letter {

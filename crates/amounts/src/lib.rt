@@ -18,9 +18,9 @@ pub mod rows;
 pub mod wait;
 
 // The amount at a node, worked out for a month: a number or an index without a call.
-pub fn operand(nodes: &[i64; 2560], values: &[i64], month: Month, at: usize, left: usize) -> Pence
-    requires { ⌜ MonthIn (month .0) × AmountStands left (now nodes) at × Fine (now values) (natOf (month .0)) (amountAt offsetOf left (now nodes) at) ⌝ }
-    ensures { λ r. ⌜ r .0 ≡ value (flat (now (values .entry))) (amountAt offsetOf left (now (nodes .entry)) at) (natOf (month .0)) ⌝ }
+pub fn operand(nodes: &&[i64], values: &&[i64], month: Month, at: usize, left: usize) -> Pence
+    requires { ⌜ MonthIn (month .0) × AmountStands left (now (now nodes)) at × Fine (now (now values)) (natOf (month .0)) (amountAt offsetOf left (now (now nodes)) at) ⌝ }
+    ensures { λ r. ⌜ r .0 ≡ value (flat (now (now (values .entry)))) (amountAt offsetOf left (now (now (nodes .entry))) at) (natOf (month .0)) ⌝ }
 {
     let x = nodes::slot(nodes, at, 0);
     match x {
@@ -31,15 +31,9 @@ pub fn operand(nodes: &[i64; 2560], values: &[i64], month: Month, at: usize, lef
 }
 
 // The amount at a node of any letter.
-pub fn amount_value(
-    nodes: &[i64; 2560],
-    values: &[i64],
-    month: Month,
-    at: usize,
-    left: usize,
-) -> Pence
-    requires { ⌜ MonthIn (month .0) × AmountStands left (now nodes) at × Fine (now values) (natOf (month .0)) (amountAt offsetOf left (now nodes) at) ⌝ }
-    ensures { λ r. ⌜ r .0 ≡ value (flat (now (values .entry))) (amountAt offsetOf left (now (nodes .entry)) at) (natOf (month .0)) ⌝ }
+pub fn amount_value(nodes: &&[i64], values: &&[i64], month: Month, at: usize, left: usize) -> Pence
+    requires { ⌜ MonthIn (month .0) × AmountStands left (now (now nodes)) at × Fine (now (now values)) (natOf (month .0)) (amountAt offsetOf left (now (now nodes)) at) ⌝ }
+    ensures { λ r. ⌜ r .0 ≡ value (flat (now (now (values .entry)))) (amountAt offsetOf left (now (now (nodes .entry))) at) (natOf (month .0)) ⌝ }
 {
     let letter = nodes::amount_letter(nodes::slot(nodes, at, 0));
     match letter {
@@ -76,9 +70,9 @@ pub fn amount_value(
 }
 
 // Whether the test at a node holds in a month. `Y` and `V` try both sides.
-pub fn test_holds(nodes: &[i64; 2560], values: &[i64], month: Month, at: usize, left: usize) -> bool
-    requires { ⌜ MonthIn (month .0) × TestStands left (now nodes) at × FineTest (now values) (natOf (month .0)) (testAt offsetOf left (now nodes) at) ⌝ }
-    ensures { λ r. ⌜ r ≡ holds (flat (now (values .entry))) (testAt offsetOf left (now (nodes .entry)) at) (natOf (month .0)) ⌝ }
+pub fn test_holds(nodes: &&[i64], values: &&[i64], month: Month, at: usize, left: usize) -> bool
+    requires { ⌜ MonthIn (month .0) × TestStands left (now (now nodes)) at × FineTest (now (now values)) (natOf (month .0)) (testAt offsetOf left (now (now nodes)) at) ⌝ }
+    ensures { λ r. ⌜ r ≡ holds (flat (now (now (values .entry)))) (testAt offsetOf left (now (now (nodes .entry))) at) (natOf (month .0)) ⌝ }
 {
     let letter = nodes::test_letter(nodes::slot(nodes, at, 0));
     match letter {

@@ -21,15 +21,15 @@ pub enum Wait {
 
 // The test at a node, tried in month `first` and each of the next d, one by one.
 fn wait_singly(
-    nodes: &[i64; 2560],
-    values: &[i64],
+    nodes: &&[i64],
+    values: &&[i64],
     first: Month,
     d: Month,
     at: usize,
     left: usize,
 ) -> Wait
-    requires { ⌜ MonthsIn (first .0) (d .0) × TestStands left (now nodes) at × FineMonths (now values) (natOf (first .0)) (natOf (d .0)) (testAt offsetOf left (now nodes) at) ⌝ }
-    ensures { λ r. ⌜ r ≡ waitOf (tried (holds (flat (now (values .entry))) (testAt offsetOf left (now (nodes .entry)) at)) (natOf (d .0)) (natOf (first .0))) ⌝ }
+    requires { ⌜ MonthsIn (first .0) (d .0) × TestStands left (now (now nodes)) at × FineMonths (now (now values)) (natOf (first .0)) (natOf (d .0)) (testAt offsetOf left (now (now nodes)) at) ⌝ }
+    ensures { λ r. ⌜ r ≡ waitOf (tried (holds (flat (now (now (values .entry)))) (testAt offsetOf left (now (now (nodes .entry))) at)) (natOf (d .0)) (natOf (first .0))) ⌝ }
 {
     let last = integers::later(first, d);
     let mut month = first;
@@ -74,15 +74,15 @@ pub fn between(month: Month, last: Month) -> Month
 
 // The test at a node, tried in month `first` and each of the next d: four at a time, the last ones one by one.
 pub fn wait_for(
-    nodes: &[i64; 2560],
-    values: &[i64],
+    nodes: &&[i64],
+    values: &&[i64],
     first: Month,
     d: Month,
     at: usize,
     left: usize,
 ) -> Wait
-    requires { ⌜ MonthsIn (first .0) (d .0) × TestStands left (now nodes) at × FineMonths (now values) (natOf (first .0)) (natOf (d .0)) (testAt offsetOf left (now nodes) at) ⌝ }
-    ensures { λ r. ⌜ r ≡ waitOf (tried (holds (flat (now (values .entry))) (testAt offsetOf left (now (nodes .entry)) at)) (natOf (d .0)) (natOf (first .0))) ⌝ }
+    requires { ⌜ MonthsIn (first .0) (d .0) × TestStands left (now (now nodes)) at × FineMonths (now (now values)) (natOf (first .0)) (natOf (d .0)) (testAt offsetOf left (now (now nodes)) at) ⌝ }
+    ensures { λ r. ⌜ r ≡ waitOf (tried (holds (flat (now (now (values .entry)))) (testAt offsetOf left (now (now (nodes .entry))) at)) (natOf (d .0)) (natOf (first .0))) ⌝ }
 {
     let last = integers::later(first, d);
     let mut month = first;

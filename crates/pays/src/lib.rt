@@ -26,16 +26,16 @@ pub struct Pair {
 
 // What the plan at a node pays in `month`, its root in month `root`.
 pub fn plan_pays(
-    nodes: &[i64; 2560],
-    values: &[i64],
+    nodes: &&[i64],
+    values: &&[i64],
     root: Month,
     month: Month,
     pair: Pair,
     at: usize,
     left: usize,
 ) -> Pence
-    requires { ⌜ MonthIn (root .0) × MonthIn (month .0) × PairIn (pair .p) (pair .q) × PlanStands left (now nodes) at × FinePlan (now values) (signOf (pair .p) (pair .q)) (planAt natOf left (now nodes) at) (natOf (root .0)) (natOf (month .0)) ⌝ }
-    ensures { λ r. ⌜ r .0 ≡ pays (flat (now (values .entry))) (signOf (pair .p) (pair .q)) (planAt natOf left (now (nodes .entry)) at) (natOf (root .0)) (natOf (month .0)) ⌝ }
+    requires { ⌜ MonthIn (root .0) × MonthIn (month .0) × PairIn (pair .p) (pair .q) × PlanStands left (now (now nodes)) at × FinePlan (now (now values)) (signOf (pair .p) (pair .q)) (planAt natOf left (now (now nodes)) at) (natOf (root .0)) (natOf (month .0)) ⌝ }
+    ensures { λ r. ⌜ r .0 ≡ pays (flat (now (now (values .entry)))) (signOf (pair .p) (pair .q)) (planAt natOf left (now (now (nodes .entry))) at) (natOf (root .0)) (natOf (month .0)) ⌝ }
 {
     let letter = rows::letter(nodes, at);
     match letter {

@@ -7,17 +7,17 @@ ghost use Rattle.nodes.specs.Table.{natOf, slotAt};
 use integers::Month;
 use nodes::PlanLetter;
 
-pub fn letter(nodes: &[i64; 2560], at: usize) -> PlanLetter
-    requires { ⌜ at < 512 ⌝ }
-    ensures { λ r. ⌜ r ≡ planLetter (slotAt (now (nodes .entry)) at 0) ⌝ }
+pub fn letter(nodes: &&[i64], at: usize) -> PlanLetter
+    requires { ⌜ RowIn (now (now nodes)) at ⌝ }
+    ensures { λ r. ⌜ r ≡ planLetter (slotAt (now (now (nodes .entry))) at 0) ⌝ }
 {
     nodes::plan_letter(nodes::slot(nodes, at, 0))
 }
 
 // A delay below zero counts as none.
-pub fn delay(nodes: &[i64; 2560], at: usize) -> Month
-    requires { ⌜ at < 512 ⌝ }
-    ensures { λ r. ⌜ r .0 ≡ pos (natOf (slotAt (now (nodes .entry)) at 1)) ⌝ }
+pub fn delay(nodes: &&[i64], at: usize) -> Month
+    requires { ⌜ RowIn (now (now nodes)) at ⌝ }
+    ensures { λ r. ⌜ r .0 ≡ pos (natOf (slotAt (now (now (nodes .entry))) at 1)) ⌝ }
 {
     let d = nodes::slot(nodes, at, 1);
     if d < 0 {

@@ -13,9 +13,9 @@ use integers::Month;
 use integers::Pence;
 
 // One penny from the row's first party to its second, as the pair counts it.
-pub fn penny(nodes: &[i64; 2560], at: usize, pair: Pair) -> Pence
-    requires { ⌜ (at < 512) × PairIn (pair .p) (pair .q) ⌝ }
-    ensures { λ r. ⌜ r .0 ≡ signOf (pair .p) (pair .q) (natOf (slotAt (now (nodes .entry)) at 1)) (natOf (slotAt (now (nodes .entry)) at 2)) ⌝ }
+pub fn penny(nodes: &&[i64], at: usize, pair: Pair) -> Pence
+    requires { ⌜ RowIn (now (now nodes)) at × PairIn (pair .p) (pair .q) ⌝ }
+    ensures { λ r. ⌜ r .0 ≡ signOf (pair .p) (pair .q) (natOf (slotAt (now (now (nodes .entry))) at 1)) (natOf (slotAt (now (now (nodes .entry))) at 2)) ⌝ }
 {
     let a = nodes::slot(nodes, at, 1);
     let b = nodes::slot(nodes, at, 2);
@@ -32,9 +32,9 @@ pub fn penny(nodes: &[i64; 2560], at: usize, pair: Pair) -> Pence
 }
 
 // The penny in the month of the plan's root, else nothing.
-pub fn transfer(nodes: &[i64; 2560], root: Month, month: Month, pair: Pair, at: usize) -> Pence
-    requires { ⌜ (at < 512) × MonthIn (root .0) × MonthIn (month .0) × PairIn (pair .p) (pair .q) ⌝ }
-    ensures { λ r. ⌜ r .0 ≡ cond (eqb (natOf (root .0)) (natOf (month .0))) (signOf (pair .p) (pair .q) (natOf (slotAt (now (nodes .entry)) at 1)) (natOf (slotAt (now (nodes .entry)) at 2))) (pos 0) ⌝ }
+pub fn transfer(nodes: &&[i64], root: Month, month: Month, pair: Pair, at: usize) -> Pence
+    requires { ⌜ RowIn (now (now nodes)) at × MonthIn (root .0) × MonthIn (month .0) × PairIn (pair .p) (pair .q) ⌝ }
+    ensures { λ r. ⌜ r .0 ≡ cond (eqb (natOf (root .0)) (natOf (month .0))) (signOf (pair .p) (pair .q) (natOf (slotAt (now (now (nodes .entry))) at 1)) (natOf (slotAt (now (now (nodes .entry))) at 2))) (pos 0) ⌝ }
 {
     let r = root.0;
     let m = month.0;

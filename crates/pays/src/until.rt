@@ -41,15 +41,15 @@ fn of_short(w: Wait) -> Until
 
 // The test at a node, tried from month `root` on for d months, but not after `month`.
 pub fn wait_until(
-    nodes: &[i64; 2560],
-    values: &[i64],
+    nodes: &&[i64],
+    values: &&[i64],
     root: Month,
     month: Month,
     d: Month,
     at: usize,
 ) -> Until
-    requires { ⌜ MonthsIn (root .0) (d .0) × MonthIn (month .0) × TestStands 512 (now nodes) at × FineMonths (now values) (natOf (root .0)) (natOf (d .0)) (testAt offsetOf 512 (now nodes) at) ⌝ }
-    ensures { λ r. ⌜ UntilIs (holds (flat (now (values .entry))) (testAt offsetOf 512 (now (nodes .entry)) at)) (natOf (d .0)) (natOf (root .0)) (natOf (month .0)) r ⌝ }
+    requires { ⌜ MonthsIn (root .0) (d .0) × MonthIn (month .0) × TestStands 512 (now (now nodes)) at × FineMonths (now (now values)) (natOf (root .0)) (natOf (d .0)) (testAt offsetOf 512 (now (now nodes)) at) ⌝ }
+    ensures { λ r. ⌜ UntilIs (holds (flat (now (now (values .entry)))) (testAt offsetOf 512 (now (now (nodes .entry))) at)) (natOf (d .0)) (natOf (root .0)) (natOf (month .0)) r ⌝ }
 {
     if month.0 < root.0 {
         return Until::After;

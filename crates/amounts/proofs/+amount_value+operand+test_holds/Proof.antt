@@ -41,36 +41,36 @@ use Rattle.nodes.proofs.test_letter.Reads as test-letter-reads
 use Rattle.amounts.proofs.+amount_value+operand+test_holds.{statement}
 use Rattle.amounts.proofs.+amount_value+operand+test_holds.Tie.{close}
 
-abbrev μ-amount-value : Measures 2 amount-value-kinds.ps ℕ
+abbrev μ-amount-value : Measures 4 amount-value-kinds.ps ℕ
 μ-amount-value κs a = 2 * a .1 .1 .1 .1 .0
 
-abbrev μ-operand : Measures 2 operand-kinds.ps ℕ
+abbrev μ-operand : Measures 4 operand-kinds.ps ℕ
 μ-operand κs a = 2 * a .1 .1 .1 .1 .0 + 1
 
-abbrev μ-test-holds : Measures 2 test-holds-kinds.ps ℕ
+abbrev μ-test-holds : Measures 4 test-holds-kinds.ps ℕ
 μ-test-holds κs a = 2 * a .1 .1 .1 .1 .0
 
-abbrev amount-value-at : ℕ → In 2 amount-value-kinds.ps
-amount-value-at t = and 2 amount-value-kinds.ps (is 2 amount-value-kinds.ps μ-amount-value t) amount-value.Pre
+abbrev amount-value-at : ℕ → In 4 amount-value-kinds.ps
+amount-value-at t = and 4 amount-value-kinds.ps (is 4 amount-value-kinds.ps μ-amount-value t) amount-value.Pre
 
-abbrev amount-value-below : ℕ → In 2 amount-value-kinds.ps
+abbrev amount-value-below : ℕ → In 4 amount-value-kinds.ps
 amount-value-below t = and
-    2
+    4
     amount-value-kinds.ps
-    (falls 2 amount-value-kinds.ps _<_ μ-amount-value t)
+    (falls 4 amount-value-kinds.ps _<_ μ-amount-value t)
     amount-value.Pre
 
-abbrev operand-at : ℕ → In 2 operand-kinds.ps
-operand-at t = and 2 operand-kinds.ps (is 2 operand-kinds.ps μ-operand t) operand.Pre
+abbrev operand-at : ℕ → In 4 operand-kinds.ps
+operand-at t = and 4 operand-kinds.ps (is 4 operand-kinds.ps μ-operand t) operand.Pre
 
-abbrev operand-below : ℕ → In 2 operand-kinds.ps
-operand-below t = and 2 operand-kinds.ps (falls 2 operand-kinds.ps _<_ μ-operand t) operand.Pre
+abbrev operand-below : ℕ → In 4 operand-kinds.ps
+operand-below t = and 4 operand-kinds.ps (falls 4 operand-kinds.ps _<_ μ-operand t) operand.Pre
 
-abbrev test-holds-at : ℕ → In 2 test-holds-kinds.ps
-test-holds-at t = and 2 test-holds-kinds.ps (is 2 test-holds-kinds.ps μ-test-holds t) test-holds.Pre
+abbrev test-holds-at : ℕ → In 4 test-holds-kinds.ps
+test-holds-at t = and 4 test-holds-kinds.ps (is 4 test-holds-kinds.ps μ-test-holds t) test-holds.Pre
 
-abbrev test-holds-below : ℕ → In 2 test-holds-kinds.ps
-test-holds-below t = and 2 test-holds-kinds.ps (falls 2 test-holds-kinds.ps _<_ μ-test-holds t) test-holds.Pre
+abbrev test-holds-below : ℕ → In 4 test-holds-kinds.ps
+test-holds-below t = and 4 test-holds-kinds.ps (falls 4 test-holds-kinds.ps _<_ μ-test-holds t) test-holds.Pre
 
 -- ---- amount_value
 
@@ -101,7 +101,7 @@ amount-value-calls t = (
 )
 
 abbrev amount-value-node : (t : ℕ) → amount-value-lts.Start (amount-value-calls t) (amount-value-at t) amount-value.Post → AmountLetter → Type 0
-amount-value-node t s l = AmountNode (s .args .values .now) (s .args .nodes .now) (natOf (s .args .month .0)) (s .args .left) (s .args .at) l
+amount-value-node t s l = AmountNode (s .args .values .now .now) (s .args .nodes .now .now) (natOf (s .args .month .0)) (s .args .left) (s .args .at) l
 
 -- what is known in the arm of letter l
 amount-value-here : (t : ℕ) (c : amount-value-lts.After-amount-letter (amount-value-calls t) (amount-value-at t) amount-value.Post) (l : AmountLetter)
@@ -326,7 +326,7 @@ operand-calls t = (
 )
 
 abbrev operand-node : (t : ℕ) → operand-lts.Start (operand-calls t) (operand-at t) operand.Post → AmountLetter → Type 0
-operand-node t s l = AmountNode (s .args .values .now) (s .args .nodes .now) (natOf (s .args .month .0)) (s .args .left) (s .args .at) l
+operand-node t s l = AmountNode (s .args .values .now .now) (s .args .nodes .now .now) (natOf (s .args .month .0)) (s .args .left) (s .args .at) l
 
 -- what is known where the letter is l
 operand-here : (t : ℕ) (c : operand-lts.After-slot (operand-calls t) (operand-at t) operand.Post) (l : AmountLetter)
@@ -399,7 +399,7 @@ test-holds-calls t = (
 )
 
 abbrev test-holds-node : (t : ℕ) → test-holds-lts.Start (test-holds-calls t) (test-holds-at t) test-holds.Post → TestLetter → Type 0
-test-holds-node t s l = TestNode (s .args .values .now) (s .args .nodes .now) (natOf (s .args .month .0)) (s .args .left) (s .args .at) l
+test-holds-node t s l = TestNode (s .args .values .now .now) (s .args .nodes .now .now) (natOf (s .args .month .0)) (s .args .left) (s .args .at) l
 
 -- what is known in the arm of letter l
 test-holds-here : (t : ℕ) (c : test-holds-lts.After-test-letter (test-holds-calls t) (test-holds-at t) test-holds.Post) (l : TestLetter)

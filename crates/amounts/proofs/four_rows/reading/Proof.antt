@@ -20,7 +20,7 @@ reading-requires c κs =
     let e = c .later .ensures in (
       s .pre .0,
       four-month _ (s .pre .1) 0 (omega arith) _ e,
-      subst (λ r. Reading (s .args .values .now) r (slotAt (s .args .nodes .now) (s .args .at) 2)) (sym (four-is _ (s .pre .1) 0 (omega arith) _ e)) (s .pre .2 0 (omega arith)),
+      subst (λ r. Reading (s .args .values .now .now) r (slotAt (s .args .nodes .now .now) (s .args .at) 2)) (sym (four-is _ (s .pre .1) 0 (omega arith) _ e)) (s .pre .2 0 (omega arith)),
     )
 
 later-requires-2 : tie.Need-later-requires-2
@@ -32,7 +32,7 @@ reading-requires-2 c κs =
     let e = c .later2 .ensures in (
       s .pre .0,
       four-month _ (s .pre .1) 1 (omega arith) _ e,
-      subst (λ r. Reading (s .args .values .now) r (slotAt (s .args .nodes .now) (s .args .at) 2)) (sym (four-is _ (s .pre .1) 1 (omega arith) _ e)) (s .pre .2 1 (omega arith)),
+      subst (λ r. Reading (s .args .values .now .now) r (slotAt (s .args .nodes .now .now) (s .args .at) 2)) (sym (four-is _ (s .pre .1) 1 (omega arith) _ e)) (s .pre .2 1 (omega arith)),
     )
 
 later-requires-3 : tie.Need-later-requires-3
@@ -44,7 +44,7 @@ reading-requires-3 c κs =
     let e = c .later3 .ensures in (
       s .pre .0,
       four-month _ (s .pre .1) 2 (omega arith) _ e,
-      subst (λ r. Reading (s .args .values .now) r (slotAt (s .args .nodes .now) (s .args .at) 2)) (sym (four-is _ (s .pre .1) 2 (omega arith) _ e)) (s .pre .2 2 (omega arith)),
+      subst (λ r. Reading (s .args .values .now .now) r (slotAt (s .args .nodes .now .now) (s .args .at) 2)) (sym (four-is _ (s .pre .1) 2 (omega arith) _ e)) (s .pre .2 2 (omega arith)),
     )
 
 later-requires-4 : tie.Need-later-requires-4
@@ -56,14 +56,14 @@ reading-requires-4 c κs =
     let e = c .later4 .ensures in (
       s .pre .0,
       four-month _ (s .pre .1) 3 (omega arith) _ e,
-      subst (λ r. Reading (s .args .values .now) r (slotAt (s .args .nodes .now) (s .args .at) 2)) (sym (four-is _ (s .pre .1) 3 (omega arith) _ e)) (s .pre .2 3 (omega arith)),
+      subst (λ r. Reading (s .args .values .now .now) r (slotAt (s .args .nodes .now .now) (s .args .at) 2)) (sym (four-is _ (s .pre .1) 3 (omega arith) _ e)) (s .pre .2 3 (omega arith)),
     )
 
 returns : tie.Need-returns
 unfolding penceIn
 returns c =
     let s = c .before .before .before .before .before .before .before .before in
-    let at : ℕ → ℤ = λ r. getD (s .args .values .now) (natAbs (pos r +ℤ slotAt (s .args .nodes .now) (s .args .at) 2)) (pos 0) in
+    let at : ℕ → ℤ = λ r. getD (s .args .values .now .now) (natAbs (pos r +ℤ slotAt (s .args .nodes .now .now) (s .args .at) 2)) (pos 0) in
     each _
     (c .before .before .before .before .before .before .reading .ensures ∙ ap at (four-is _ (s .pre .1) 0 (omega arith) _ (c .before .before .before .before .before .before .before .later .ensures)))
     (c .before .before .before .before .reading2 .ensures ∙ ap at (four-is _ (s .pre .1) 1 (omega arith) _ (c .before .before .before .before .before .later2 .ensures)))

@@ -47,39 +47,39 @@ use Rattle.nodes.proofs.test_letter.Reads as test-letter-reads
 use Rattle.amounts.proofs.fours.+amounts+operands+tests.{statement}
 use Rattle.amounts.proofs.fours.+amounts+operands+tests.Tie.{close}
 
-abbrev μ-amounts : Measures 2 amounts-kinds.ps ℕ
+abbrev μ-amounts : Measures 4 amounts-kinds.ps ℕ
 μ-amounts κs a = 2 * a .1 .1 .1 .1 .0
 
-abbrev μ-operands : Measures 2 operands-kinds.ps ℕ
+abbrev μ-operands : Measures 4 operands-kinds.ps ℕ
 μ-operands κs a = 2 * a .1 .1 .1 .1 .0 + 1
 
-abbrev μ-tests : Measures 2 tests-kinds.ps ℕ
+abbrev μ-tests : Measures 4 tests-kinds.ps ℕ
 μ-tests κs a = 2 * a .1 .1 .1 .1 .0
 
-abbrev amounts-at : ℕ → In 2 amounts-kinds.ps
-amounts-at t = and 2 amounts-kinds.ps (is 2 amounts-kinds.ps μ-amounts t) amounts.Pre
+abbrev amounts-at : ℕ → In 4 amounts-kinds.ps
+amounts-at t = and 4 amounts-kinds.ps (is 4 amounts-kinds.ps μ-amounts t) amounts.Pre
 
-abbrev amounts-below : ℕ → In 2 amounts-kinds.ps
-amounts-below t = and 2 amounts-kinds.ps (falls 2 amounts-kinds.ps _<_ μ-amounts t) amounts.Pre
+abbrev amounts-below : ℕ → In 4 amounts-kinds.ps
+amounts-below t = and 4 amounts-kinds.ps (falls 4 amounts-kinds.ps _<_ μ-amounts t) amounts.Pre
 
-abbrev operands-at : ℕ → In 2 operands-kinds.ps
-operands-at t = and 2 operands-kinds.ps (is 2 operands-kinds.ps μ-operands t) operands.Pre
+abbrev operands-at : ℕ → In 4 operands-kinds.ps
+operands-at t = and 4 operands-kinds.ps (is 4 operands-kinds.ps μ-operands t) operands.Pre
 
-abbrev operands-below : ℕ → In 2 operands-kinds.ps
-operands-below t = and 2 operands-kinds.ps (falls 2 operands-kinds.ps _<_ μ-operands t) operands.Pre
+abbrev operands-below : ℕ → In 4 operands-kinds.ps
+operands-below t = and 4 operands-kinds.ps (falls 4 operands-kinds.ps _<_ μ-operands t) operands.Pre
 
-abbrev tests-at : ℕ → In 2 tests-kinds.ps
-tests-at t = and 2 tests-kinds.ps (is 2 tests-kinds.ps μ-tests t) tests.Pre
+abbrev tests-at : ℕ → In 4 tests-kinds.ps
+tests-at t = and 4 tests-kinds.ps (is 4 tests-kinds.ps μ-tests t) tests.Pre
 
-abbrev tests-below : ℕ → In 2 tests-kinds.ps
-tests-below t = and 2 tests-kinds.ps (falls 2 tests-kinds.ps _<_ μ-tests t) tests.Pre
+abbrev tests-below : ℕ → In 4 tests-kinds.ps
+tests-below t = and 4 tests-kinds.ps (falls 4 tests-kinds.ps _<_ μ-tests t) tests.Pre
 
 abbrev amounts-calls : ℕ → amounts-lts.Claims
 amounts-calls t = (slot-reads.Asked, slot-reads.Learnt, amount-letter-reads.Asked, amount-letter-reads.Learnt, number-reads.Asked, number-reads.Learnt, reading-reads.Asked, reading-reads.Learnt, operands-below t, operands.Post, link-reads.Asked, link-reads.Learnt, plus-reads.Asked, plus-reads.Learnt, minus-reads.Asked, minus-reads.Learnt, times-reads.Asked, times-reads.Learnt, over-reads.Asked, over-reads.Learnt, tests-below t, tests.Post, chosen-reads.Asked, chosen-reads.Learnt)
 
 -- what is known in the arm of letter l, in each of the four months
 amounts-here : (t : ℕ) (c : amounts-lts.After-amount-letter (amounts-calls t) (amounts-at t) amounts.Post) (l : AmountLetter)
-    → c .amount-letter .result ≡ l → (k : ℕ) → k < 4 → AmountNode (c .before .before .args .values .now) (c .before .before .args .nodes .now) (natOf (c .before .before .args .month .0) + k) (c .before .before .args .left) (c .before .before .args .at) l
+    → c .amount-letter .result ≡ l → (k : ℕ) → k < 4 → AmountNode (c .before .before .args .values .now .now) (c .before .before .args .nodes .now .now) (natOf (c .before .before .args .month .0) + k) (c .before .before .args .left) (c .before .before .args .at) l
 amounts-here t c l e k m =
     let f : SFits w64 (c .before .slot .result) = search needs in
     let p = c .before .before .pre .1 in
@@ -386,7 +386,7 @@ operands-calls t = (slot-reads.Asked, slot-reads.Learnt, number-reads.Asked, num
 
 -- what is known where the letter is l, in each of the four months
 operands-here : (t : ℕ) (c : operands-lts.After-slot (operands-calls t) (operands-at t) operands.Post) (l : AmountLetter)
-    → l ≡ amountLetter (rd (c .slot .result)) → (k : ℕ) → k < 4 → AmountNode (c .before .args .values .now) (c .before .args .nodes .now) (natOf (c .before .args .month .0) + k) (c .before .args .left) (c .before .args .at) l
+    → l ≡ amountLetter (rd (c .slot .result)) → (k : ℕ) → k < 4 → AmountNode (c .before .args .values .now .now) (c .before .args .nodes .now .now) (natOf (c .before .args .month .0) + k) (c .before .args .left) (c .before .args .at) l
 operands-here t c l e k m =
     let f : SFits w64 (c .slot .result) = search needs in
     let p = c .before .pre .1 in
@@ -439,7 +439,7 @@ tests-calls t = (slot-reads.Asked, slot-reads.Learnt, test-letter-reads.Asked, t
 
 -- what is known in the arm of letter l, in each of the four months
 tests-here : (t : ℕ) (c : tests-lts.After-test-letter (tests-calls t) (tests-at t) tests.Post) (l : TestLetter)
-    → c .test-letter .result ≡ l → (k : ℕ) → k < 4 → TestNode (c .before .before .args .values .now) (c .before .before .args .nodes .now) (natOf (c .before .before .args .month .0) + k) (c .before .before .args .left) (c .before .before .args .at) l
+    → c .test-letter .result ≡ l → (k : ℕ) → k < 4 → TestNode (c .before .before .args .values .now .now) (c .before .before .args .nodes .now .now) (natOf (c .before .before .args .month .0) + k) (c .before .before .args .left) (c .before .before .args .at) l
 tests-here t c l e k m =
     let f : SFits w64 (c .before .slot .result) = search needs in
     let p = c .before .before .pre .1 in

@@ -22,7 +22,7 @@ returns : tie.Need-returns
 returns c =
     let s = c .before .before in
     let f : SFits w64 (c .before .slot .result) = search needs in
-    let d = divisor-is (slotAt (s .args .nodes .now) (s .args .at) 1) (s .pre .1) in
+    let d = divisor-is (slotAt (s .args .nodes .now .now) (s .args .at) 1) (s .pre .1) in
     c .quotient .ensures ∙ ap (floorZ (s .args .x .0)) (ap natAbs (toZ-ofZ f ∙ c .before .slot .ensures) ∙ d)
 
 pub over-spec : {M : Type 1} → statement M

@@ -15,7 +15,7 @@ use Rattle.amounts.proofs.wait.wait_for.Tie as tie
 use Rattle.amounts.specs.Flat.{flat}
 
 abbrev Inv-loop : tie.InvT-loop
-Inv-loop nodes values at left last month₀ month = waiting.Waiting (holds (flat values) (testAt offsetOf left nodes at)) (month₀ .0) (last .0) (month .0)
+Inv-loop nodes values at left last month₀ month = waiting.Waiting (holds (flat (values .now)) (testAt offsetOf left (nodes .now) at)) (month₀ .0) (last .0) (month .0)
 
 abbrev μ-loop : tie.MeasureT-loop
 μ-loop nodes values at left last month₀ month = natOf (last .0) - natOf (month .0)

@@ -16,7 +16,7 @@ returns c =
     let p = c .before .before .before .before .before .pre in
     let fr : SFits w64 (a .root .0) = search needs in
     let fm : SFits w64 (a .month .0) = search needs in
-    starts-after (holds (flat (a .values .now)) (testAt offsetOf 512 (a .nodes .now) (a .at))) _ _ _ (p .0) (p .1) fr fm (c .if1 .taken)
+    starts-after (holds (flat (a .values .now .now)) (testAt offsetOf 512 (a .nodes .now .now) (a .at))) _ _ _ (p .0) (p .1) fr fm (c .if1 .taken)
 
 between-requires : tie.Need-between-requires
 between-requires c κs =
@@ -24,7 +24,7 @@ between-requires c κs =
     let p = c .before .before .before .before .before .pre in
     let fr : SFits w64 (a .root .0) = search needs in
     let fm : SFits w64 (a .month .0) = search needs in
-    rest-small (holds (flat (a .values .now)) (testAt offsetOf 512 (a .nodes .now) (a .at))) _ _ _ (p .0) (p .1) fr fm (c .if1 .left) _ refl
+    rest-small (holds (flat (a .values .now .now)) (testAt offsetOf 512 (a .nodes .now .now) (a .at))) _ _ _ (p .0) (p .1) fr fm (c .if1 .left) _ refl
 
 wait-for-requires : tie.Need-wait-for-requires
 wait-for-requires c κs =
@@ -34,7 +34,7 @@ wait-for-requires c κs =
     let fm : SFits w64 (a .month .0) = search needs in
     let fs : SFits w64 (c .before .before .before .before .before .between .result .0) = search needs in
     let fd : SFits w64 (a .d .0) = search needs in
-    (short-months (holds (flat (a .values .now)) (testAt offsetOf 512 (a .nodes .now) (a .at))) _ _ _ (p .0) (p .1) fr fm (c .before .before .before .before .before .before .if1 .left) _ (c .before .before .before .before .before .between .ensures) fs fd (c .if2 .taken), p .2, short-fine (holds (flat (a .values .now)) (testAt offsetOf 512 (a .nodes .now) (a .at))) _ _ _ (p .0) (p .1) fr fm (c .before .before .before .before .before .before .if1 .left) _ (c .before .before .before .before .before .between .ensures) fs fd (c .if2 .taken) _ _ (p .3))
+    (short-months (holds (flat (a .values .now .now)) (testAt offsetOf 512 (a .nodes .now .now) (a .at))) _ _ _ (p .0) (p .1) fr fm (c .before .before .before .before .before .before .if1 .left) _ (c .before .before .before .before .before .between .ensures) fs fd (c .if2 .taken), p .2, short-fine (holds (flat (a .values .now .now)) (testAt offsetOf 512 (a .nodes .now .now) (a .at))) _ _ _ (p .0) (p .1) fr fm (c .before .before .before .before .before .before .if1 .left) _ (c .before .before .before .before .before .between .ensures) fs fd (c .if2 .taken) _ _ (p .3))
 
 of-short-requires : tie.Need-of-short-requires
 of-short-requires c κs = tt
@@ -47,7 +47,7 @@ returns-2 c =
     let fm : SFits w64 (a .month .0) = search needs in
     let fs : SFits w64 (c .before .before .before .before .before .before .before .between .result .0) = search needs in
     let fd : SFits w64 (a .d .0) = search needs in
-    subst (UntilIs _ _ _ _) (sym (c .of-short .ensures)) (short-is (holds (flat (a .values .now)) (testAt offsetOf 512 (a .nodes .now) (a .at))) _ _ _ (p .0) (p .1) fr fm (c .before .before .before .before .before .before .before .before .if1 .left) _ (c .before .before .before .before .before .before .before .between .ensures) fs fd (c .before .before .if2 .taken) _ (c .before .wait-for .ensures))
+    subst (UntilIs _ _ _ _) (sym (c .of-short .ensures)) (short-is (holds (flat (a .values .now .now)) (testAt offsetOf 512 (a .nodes .now .now) (a .at))) _ _ _ (p .0) (p .1) fr fm (c .before .before .before .before .before .before .before .before .if1 .left) _ (c .before .before .before .before .before .before .before .between .ensures) fs fd (c .before .before .if2 .taken) _ (c .before .wait-for .ensures))
 
 wait-for-requires-2 : tie.Need-wait-for-requires-2
 wait-for-requires-2 c κs = (c .before .before .before .before .before .before .before .before .before .before .before .pre .0, c .before .before .before .before .before .before .before .before .before .before .before .pre .2, c .before .before .before .before .before .before .before .before .before .before .before .pre .3)
