@@ -10,7 +10,7 @@ use Rattle.language.specs.Text.Trees.{Plan}
 use Rattle.nodes.specs.Found.{amountAt, offsetOf, planAt, planBy, testAt}
 use Rattle.nodes.specs.Letters.{planLetter}
 use Rattle.nodes.specs.Stands.{AmountStands, Forward, PlanStands, TestStands, planAsks}
-use Rattle.nodes.specs.Table.{linkAt, natOf, slotAt}
+use Rattle.nodes.specs.Table.{RowIn, linkAt, natOf, slotAt}
 use Rattle.nodes.specs.declared.PlanLetter.{PlanLetter}
 use Rattle.pays.specs.FinePlan.{FinePlan}
 
@@ -36,7 +36,7 @@ planStandsBy nodes left at l =
 
 pub record PlanNode (values nodes : List ℤ) (sg : Sign) (r m left at : ℕ) (l : PlanLetter) : Type 0 where
   pub some : 0 < left
-  pub inside : at < maxNodes
+  pub inside : RowIn nodes at
   pub stands : planStandsBy nodes left at l
   pub tree : planAt natOf left nodes at ≡ planOf nodes left at l
   pub fine : FinePlan values sg (planOf nodes left at l) r m
@@ -49,12 +49,12 @@ unfolding planAt PlanStands
 plan-tree nodes zero at s = absurd s
 plan-tree nodes (suc left) at s = rw (less-one left)
 
-pub plan-asks : (nodes : List ℤ) (left at : ℕ) → PlanStands left nodes at → (0 < left) × (at < maxNodes) × planStandsBy nodes left at (planLetter (slotAt nodes at 0))
+pub plan-asks : (nodes : List ℤ) (left at : ℕ) → PlanStands left nodes at → (0 < left) × RowIn nodes at × planStandsBy nodes left at (planLetter (slotAt nodes at 0))
 unfolding PlanStands
 plan-asks nodes zero at s = absurd s
 plan-asks nodes (suc left) at s = rw (less-one left) (omega arith, s .0, s .1)
 
-pub plan-inside : (nodes : List ℤ) (left at : ℕ) → PlanStands left nodes at → at < maxNodes
+pub plan-inside : (nodes : List ℤ) (left at : ℕ) → PlanStands left nodes at → RowIn nodes at
 plan-inside nodes left at h = plan-asks nodes left at h .1
 
 -- l is the letter that the code finds, k that of the arm

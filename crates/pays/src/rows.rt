@@ -3,7 +3,7 @@ ghost use mathlib.Core.Path.{_≡_};
 ghost use Prim.Native.Nat.{_<_};
 ghost use lib.IntN.{pos};
 ghost use Rattle.nodes.specs.Letters.{planLetter};
-ghost use Rattle.nodes.specs.Table.{natOf, slotAt};
+ghost use Rattle.nodes.specs.Table.{RowIn, natOf, slotAt};
 use integers::Month;
 use nodes::PlanLetter;
 

@@ -6,7 +6,7 @@ ghost use lib.Dec.{eqb};
 ghost use lib.IntN.{pos};
 ghost use Rattle.amounts.specs.Fine.{MonthIn};
 ghost use Rattle.language.specs.Calls.{signOf};
-ghost use Rattle.nodes.specs.Table.{natOf, slotAt};
+ghost use Rattle.nodes.specs.Table.{RowIn, natOf, slotAt};
 ghost use Rattle.pays.specs.Parties.{PairIn};
 use crate::Pair;
 use integers::Month;

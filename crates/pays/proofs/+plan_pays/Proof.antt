@@ -23,14 +23,14 @@ use Rattle.pays.proofs.transfer.transfer.Reads as transfer-reads
 use Rattle.pays.proofs.+plan_pays.{statement}
 use Rattle.pays.proofs.+plan_pays.Tie.{close}
 
-abbrev μ-plan-pays : Measures 2 plan-pays-kinds.ps ℕ
+abbrev μ-plan-pays : Measures 4 plan-pays-kinds.ps ℕ
 μ-plan-pays κs a = a .1 .1 .1 .1 .1 .1 .0
 
-abbrev plan-pays-at : ℕ → In 2 plan-pays-kinds.ps
-plan-pays-at t = and 2 plan-pays-kinds.ps (is 2 plan-pays-kinds.ps μ-plan-pays t) plan-pays.Pre
+abbrev plan-pays-at : ℕ → In 4 plan-pays-kinds.ps
+plan-pays-at t = and 4 plan-pays-kinds.ps (is 4 plan-pays-kinds.ps μ-plan-pays t) plan-pays.Pre
 
-abbrev plan-pays-below : ℕ → In 2 plan-pays-kinds.ps
-plan-pays-below t = and 2 plan-pays-kinds.ps (falls 2 plan-pays-kinds.ps _<_ μ-plan-pays t) plan-pays.Pre
+abbrev plan-pays-below : ℕ → In 4 plan-pays-kinds.ps
+plan-pays-below t = and 4 plan-pays-kinds.ps (falls 4 plan-pays-kinds.ps _<_ μ-plan-pays t) plan-pays.Pre
 
 abbrev plan-pays-calls : ℕ → plan-pays-lts.Claims
 plan-pays-calls t = (letter-reads.Asked, letter-reads.Learnt, transfer-reads.Asked, transfer-reads.Learnt, amount-value-reads.Asked, amount-value-reads.Learnt, link-reads.Asked, link-reads.Learnt, plan-pays-below t, plan-pays.Post, times-reads.Asked, times-reads.Learnt, delay-reads.Asked, delay-reads.Learnt, later-reads.Asked, later-reads.Learnt, plus-reads.Asked, plus-reads.Learnt, wait-until-reads.Asked, wait-until-reads.Learnt)
