@@ -1,13 +1,13 @@
 -- An amount or test that can be walked: what stands at a node by its letter, and its parts can be walked too.
 use Prim.Native.Nat.{_+_, _-_, _<_, _≤_, suc, zero, ℕ}
-use Rattle.language.specs.Limits.{maxAmount, maxNodes}
+use Rattle.language.specs.Limits.{maxAmount}
 use Rattle.language.specs.Text.Form.{fieldsOfAmount, fieldsOfTest, offsetInForm}
 use Rattle.language.specs.Text.Trees.{Amount, Test}
 use Rattle.measures.specs.Ready.{AmountReady, AmountsReady, TestReady, TestsReady}
 use Rattle.nodes.specs.Found.{amountAt, amountBy, offsetOf, testAt, testBy}
 use Rattle.nodes.specs.Letters.{amountLetter, testLetter}
 use Rattle.nodes.specs.Stands.{AmountStands, Forward, TestStands, amountAsks, testAsks}
-use Rattle.nodes.specs.Table.{linkAt, slotAt}
+use Rattle.nodes.specs.Table.{RowIn, linkAt, slotAt}
 use Rattle.nodes.specs.declared.AmountLetter.the-variants.{Choose, Difference, Number, Product, Quotient, Sum}
 use Rattle.nodes.specs.declared.AmountLetter.{AmountLetter}
 use Rattle.nodes.specs.declared.TestLetter.the-variants.{Conjunction, Disjunction, Equal, Less, Negation}
@@ -51,22 +51,22 @@ unfolding testAt TestStands
 test-step zero nodes at s = absurd s
 test-step (suc left) nodes at s = rw (one-less left)
 
-amount-asks : (left : ℕ) (nodes : List ℤ) (at : ℕ) → AmountStands left nodes at → (0 < left) × (at < maxNodes) × amountAsksHere (amountLetter (slotAt nodes at 0)) (left - 1) nodes at
+amount-asks : (left : ℕ) (nodes : List ℤ) (at : ℕ) → AmountStands left nodes at → (0 < left) × RowIn nodes at × amountAsksHere (amountLetter (slotAt nodes at 0)) (left - 1) nodes at
 unfolding AmountStands
 amount-asks zero nodes at s = absurd s
 amount-asks (suc left) nodes at s = rw (one-less left) (omega arith, s .0, s .1)
 
-test-asks : (left : ℕ) (nodes : List ℤ) (at : ℕ) → TestStands left nodes at → (0 < left) × (at < maxNodes) × testAsksHere (testLetter (slotAt nodes at 0)) (left - 1) nodes at
+test-asks : (left : ℕ) (nodes : List ℤ) (at : ℕ) → TestStands left nodes at → (0 < left) × RowIn nodes at × testAsksHere (testLetter (slotAt nodes at 0)) (left - 1) nodes at
 unfolding TestStands
 test-asks zero nodes at s = absurd s
 test-asks (suc left) nodes at s = rw (one-less left) (omega arith, s .0, s .1)
 
 -- the two amounts, or the two tests, below a node
-amounts-ready : {left at : ℕ} {nodes : List ℤ} → at < maxNodes → AmountStands left nodes (at + 1) × (Forward nodes at 3 × AmountStands left nodes (linkAt nodes at 3))
+amounts-ready : {left at : ℕ} {nodes : List ℤ} → RowIn nodes at → AmountStands left nodes (at + 1) × (Forward nodes at 3 × AmountStands left nodes (linkAt nodes at 3))
     → fieldsOfAmount offsetInForm (amountAt offsetOf left nodes (at + 1)) × fieldsOfAmount offsetInForm (amountAt offsetOf left nodes (linkAt nodes at 3)) → AmountsReady left nodes at
 amounts-ready r a f = record { room = r; first = record { stands = a .0; fields = f .0 }; forward = a .1 .0; second = record { stands = a .1 .1; fields = f .1 } }
 
-tests-ready : {left at : ℕ} {nodes : List ℤ} → at < maxNodes → TestStands left nodes (at + 1) × (Forward nodes at 3 × TestStands left nodes (linkAt nodes at 3))
+tests-ready : {left at : ℕ} {nodes : List ℤ} → RowIn nodes at → TestStands left nodes (at + 1) × (Forward nodes at 3 × TestStands left nodes (linkAt nodes at 3))
     → fieldsOfTest offsetInForm (testAt offsetOf left nodes (at + 1)) × fieldsOfTest offsetInForm (testAt offsetOf left nodes (linkAt nodes at 3)) → TestsReady left nodes at
 tests-ready r a f = record { room = r; first = record { stands = a .0; fields = f .0 }; forward = a .1 .0; second = record { stands = a .1 .1; fields = f .1 } }
 
@@ -76,7 +76,7 @@ module _ {left at : ℕ} {nodes : List ℤ} (h : AmountReady left nodes at) wher
   pub amount-some : 0 < left
   amount-some = amount-asks left nodes at (h .stands) .0
 
-  pub amount-room : at < maxNodes
+  pub amount-room : RowIn nodes at
   amount-room = amount-asks left nodes at (h .stands) .1
 
   module _ {l m : AmountLetter} (e : l ≡ amountLetter (slotAt nodes at 0)) (t : l ≡ m) where
@@ -127,7 +127,7 @@ module _ {left at : ℕ} {nodes : List ℤ} (h : TestReady left nodes at) where
   pub test-some : 0 < left
   test-some = test-asks left nodes at (h .stands) .0
 
-  pub test-room : at < maxNodes
+  pub test-room : RowIn nodes at
   test-room = test-asks left nodes at (h .stands) .1
 
   module _ {l m : TestLetter} (e : l ≡ testLetter (slotAt nodes at 0)) (t : l ≡ m) where

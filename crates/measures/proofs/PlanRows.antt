@@ -1,5 +1,5 @@
 -- The rows of the amount of an `S` and of the test of a `W`: they stand behind the node, and give what the amount or test gives.
-use Prim.Native.Nat.{_+_, _-_, _≤_, ℕ}
+use Prim.Native.Nat.{_*_, _+_, _-_, _≤_, ℕ}
 use Rattle.integers.specs.declared.Month.{Month}
 use Rattle.language.specs.Limits.{maxAmount, maxNodes}
 use Rattle.language.specs.Rules.Measures.{latestOf, latestOfTest}
@@ -21,6 +21,7 @@ use Rattle.nodes.specs.Table.{linkAt, natOf, slotAt}
 use Rattle.nodes.specs.declared.PlanLetter.the-variants.{Scale, Within}
 use Rattle.nodes.specs.declared.PlanLetter.{PlanLetter}
 use lib.IntN.{ℤ}
+use lib.ListN.{length}
 use mathlib.Core.Bool.{Bool, true}
 use mathlib.Core.List.{List}
 use mathlib.Core.Path.{_∙_, _≡_, ap}
@@ -28,15 +29,17 @@ use native.Mathlib.Omega.{arith}
 
 -- p is where the second child stands
 module _ {left at : ℕ} {nodes : List ℤ} (h : PlanReady left nodes at) {l : PlanLetter} (e : l ≡ planLetter (slotAt nodes at 0)) {p : ℕ} (ep : p ≡ linkAt nodes at 3) where
-  pub scale-rows : l ≡ Scale → (at + 1 ≤ p) × (p ≤ maxNodes)
+  pub scale-rows : l ≡ Scale → (at + 1 ≤ p) × (p ≤ maxNodes) × (5 * p ≤ length nodes)
   scale-rows t =
       let b = amount-latest nodes (at + 1) (linkAt nodes at 3) (scale-block h e t) .0 in
-      rw ep (omega (arith, b), omega (arith, plan-room (scale-ready h e t .2)))
+      let r = plan-room (scale-ready h e t .2) in
+      rw ep (omega (arith, b), omega (arith, r .0), omega (arith, r .1))
 
-  pub within-rows : l ≡ Within → (at + 1 ≤ p) × (p ≤ maxNodes)
+  pub within-rows : l ≡ Within → (at + 1 ≤ p) × (p ≤ maxNodes) × (5 * p ≤ length nodes)
   within-rows t =
       let b = test-latest nodes (at + 1) (linkAt nodes at 3) (within-block h e t) .0 in
-      rw ep (omega (arith, b), omega (arith, plan-room (within-ready h e t .2 .1)))
+      let r = plan-room (within-ready h e t .2 .1) in
+      rw ep (omega (arith, b), omega (arith, r .0), omega (arith, r .1))
 
   module _ {k : ℕ} (ek : k ≡ latestMonth (rowsLatest nodes (p - (at + 1)) (at + 1))) where
     pub scale-latest : l ≡ Scale → k ≡ latestMonth (latestOf (amountAt offsetOf maxNodes nodes (at + 1)))

@@ -10,7 +10,7 @@ use Rattle.nodes.proofs.Signed.{key}
 use Rattle.nodes.specs.Found.{amountAt, offsetOf, planAt, planBy, testAt}
 use Rattle.nodes.specs.Letters.{planLetter}
 use Rattle.nodes.specs.Stands.{AmountStands, Forward, PlanStands, TestStands, planAsks}
-use Rattle.nodes.specs.Table.{linkAt, natOf, slotAt}
+use Rattle.nodes.specs.Table.{RowIn, linkAt, natOf, slotAt}
 use Rattle.nodes.specs.declared.PlanLetter.the-variants.{Both, Later, Scale, Transfer, Within}
 use Rattle.nodes.specs.declared.PlanLetter.{PlanLetter}
 use lib.IntN.{ℤ}
@@ -46,7 +46,7 @@ unfolding planAt PlanStands
 step zero nodes at s = absurd s
 step (suc left) nodes at s = rw (one-less left)
 
-asks : (left : ℕ) (nodes : List ℤ) (at : ℕ) → PlanStands left nodes at → (0 < left) × (at < maxNodes) × asksHere (planLetter (slotAt nodes at 0)) (left - 1) nodes at
+asks : (left : ℕ) (nodes : List ℤ) (at : ℕ) → PlanStands left nodes at → (0 < left) × RowIn nodes at × asksHere (planLetter (slotAt nodes at 0)) (left - 1) nodes at
 unfolding PlanStands
 asks zero nodes at s = absurd s
 asks (suc left) nodes at s = rw (one-less left) (omega arith, s .0, s .1)
@@ -60,7 +60,7 @@ module _ {left at : ℕ} {nodes : List ℤ} (h : PlanReady left nodes at) where
   pub plan-some : 0 < left
   plan-some = asks left nodes at (h .stands) .0
 
-  pub plan-room : at < maxNodes
+  pub plan-room : RowIn nodes at
   plan-room = asks left nodes at (h .stands) .1
 
   shallow : left - 1 ≤ maxDepth

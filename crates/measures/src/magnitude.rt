@@ -1,11 +1,11 @@
 // How far from zero an amount may be: the magnitude, where it is within the limit at every node.
 ghost use mathlib.Core.Path.{_≡_};
 ghost use mathlib.Core.Bool.{_&&_};
-ghost use Prim.Native.Nat.{_+_, _<_};
+ghost use Prim.Native.Nat.{_+_};
 ghost use lib.IntN.{natAbs};
 ghost use Rattle.language.specs.Rules.Tests.{amountSmall, testSmall};
 ghost use Rattle.nodes.specs.Found.{amountAt, offsetOf, testAt};
-ghost use Rattle.nodes.specs.Table.{linkAt, slotAt};
+ghost use Rattle.nodes.specs.Table.{RowIn, linkAt, slotAt};
 ghost use Rattle.measures.specs.Magnitudes.{InBounds, boundIn, joined, measuredAmount};
 ghost use Rattle.measures.specs.Ready.{AmountReady, AmountsReady, TestReady, TestsReady};
 use crate::limit;
@@ -16,9 +16,9 @@ use nodes::TestLetter;
 // ---- a node's own
 
 // The distance from zero of an `N`.
-pub fn distance(nodes: &[i64; 2560], at: usize) -> u64
-    requires { ⌜ at < 512 ⌝ }
-    ensures { λ r. ⌜ r ≡ natAbs (slotAt (now (nodes .entry)) at 1) ⌝ }
+pub fn distance(nodes: &&[i64], at: usize) -> u64
+    requires { ⌜ RowIn (now (now nodes)) at ⌝ }
+    ensures { λ r. ⌜ r ≡ natAbs (slotAt (now (now (nodes .entry))) at 1) ⌝ }
 {
     integers::magnitude(nodes::slot(nodes, at, 1))
 }
@@ -35,9 +35,9 @@ pub fn bound_of(bounds: &[i64], l: usize) -> u64
 
 // ---- amounts and tests
 
-pub fn amount_magnitude(nodes: &[i64; 2560], at: usize, left: usize, bounds: &[i64]) -> u64
-    requires { ⌜ AmountReady left (now nodes) at × InBounds (now bounds) ⌝ }
-    ensures { λ r. ⌜ r ≡ measuredAmount (boundIn (now (bounds .entry))) (amountAt offsetOf left (now (nodes .entry)) at) ⌝ }
+pub fn amount_magnitude(nodes: &&[i64], at: usize, left: usize, bounds: &[i64]) -> u64
+    requires { ⌜ AmountReady left (now (now nodes)) at × InBounds (now bounds) ⌝ }
+    ensures { λ r. ⌜ r ≡ measuredAmount (boundIn (now (bounds .entry))) (amountAt offsetOf left (now (now (nodes .entry))) at) ⌝ }
 {
     let letter = node::amount_kind(nodes, at);
     match letter {
@@ -62,9 +62,9 @@ pub fn amount_magnitude(nodes: &[i64; 2560], at: usize, left: usize, bounds: &[i
 }
 
 // Whether every amount in the test is within the limit.
-pub fn test_small(nodes: &[i64; 2560], at: usize, left: usize, bounds: &[i64]) -> bool
-    requires { ⌜ TestReady left (now nodes) at × InBounds (now bounds) ⌝ }
-    ensures { λ r. ⌜ r ≡ testSmall (boundIn (now (bounds .entry))) (testAt offsetOf left (now (nodes .entry)) at) ⌝ }
+pub fn test_small(nodes: &&[i64], at: usize, left: usize, bounds: &[i64]) -> bool
+    requires { ⌜ TestReady left (now (now nodes)) at × InBounds (now bounds) ⌝ }
+    ensures { λ r. ⌜ r ≡ testSmall (boundIn (now (bounds .entry))) (testAt offsetOf left (now (now (nodes .entry))) at) ⌝ }
 {
     let letter = node::test_kind(nodes, at);
     match letter {
@@ -78,9 +78,9 @@ pub fn test_small(nodes: &[i64; 2560], at: usize, left: usize, bounds: &[i64]) -
 }
 
 // The magnitude of an amount: a number or an index without a call.
-fn operand(nodes: &[i64; 2560], at: usize, left: usize, bounds: &[i64]) -> u64
-    requires { ⌜ AmountReady left (now nodes) at × InBounds (now bounds) ⌝ }
-    ensures { λ r. ⌜ r ≡ measuredAmount (boundIn (now (bounds .entry))) (amountAt offsetOf left (now (nodes .entry)) at) ⌝ }
+fn operand(nodes: &&[i64], at: usize, left: usize, bounds: &[i64]) -> u64
+    requires { ⌜ AmountReady left (now (now nodes)) at × InBounds (now bounds) ⌝ }
+    ensures { λ r. ⌜ r ≡ measuredAmount (boundIn (now (bounds .entry))) (amountAt offsetOf left (now (now (nodes .entry))) at) ⌝ }
 {
     let x = nodes::slot(nodes, at, 0);
     match x {
@@ -91,11 +91,11 @@ fn operand(nodes: &[i64; 2560], at: usize, left: usize, bounds: &[i64]) -> u64
 }
 
 // The two amounts below a node, summed.
-fn two_summed(nodes: &[i64; 2560], at: usize, left: usize, bounds: &[i64]) -> u64
-    requires { ⌜ AmountsReady left (now nodes) at × InBounds (now bounds) ⌝ }
+fn two_summed(nodes: &&[i64], at: usize, left: usize, bounds: &[i64]) -> u64
+    requires { ⌜ AmountsReady left (now (now nodes)) at × InBounds (now bounds) ⌝ }
     ensures { λ r. ⌜ r ≡ joined _+_
-        (measuredAmount (boundIn (now (bounds .entry))) (amountAt offsetOf left (now (nodes .entry)) (at + 1)))
-        (measuredAmount (boundIn (now (bounds .entry))) (amountAt offsetOf left (now (nodes .entry)) (linkAt (now (nodes .entry)) at 3))) ⌝ }
+        (measuredAmount (boundIn (now (bounds .entry))) (amountAt offsetOf left (now (now (nodes .entry))) (at + 1)))
+        (measuredAmount (boundIn (now (bounds .entry))) (amountAt offsetOf left (now (now (nodes .entry))) (linkAt (now (now (nodes .entry))) at 3))) ⌝ }
 {
     let x = operand(nodes, at + 1, left, bounds);
     let y = operand(nodes, nodes::link(nodes, at, 3), left, bounds);
@@ -103,11 +103,11 @@ fn two_summed(nodes: &[i64; 2560], at: usize, left: usize, bounds: &[i64]) -> u6
 }
 
 // Whether the two amounts below a node are within the limit.
-fn two_small(nodes: &[i64; 2560], at: usize, left: usize, bounds: &[i64]) -> bool
-    requires { ⌜ AmountsReady left (now nodes) at × InBounds (now bounds) ⌝ }
+fn two_small(nodes: &&[i64], at: usize, left: usize, bounds: &[i64]) -> bool
+    requires { ⌜ AmountsReady left (now (now nodes)) at × InBounds (now bounds) ⌝ }
     ensures { λ r. ⌜ r ≡
-        (amountSmall (boundIn (now (bounds .entry))) (amountAt offsetOf left (now (nodes .entry)) (at + 1)) &&
-        amountSmall (boundIn (now (bounds .entry))) (amountAt offsetOf left (now (nodes .entry)) (linkAt (now (nodes .entry)) at 3))) ⌝ }
+        (amountSmall (boundIn (now (bounds .entry))) (amountAt offsetOf left (now (now (nodes .entry))) (at + 1)) &&
+        amountSmall (boundIn (now (bounds .entry))) (amountAt offsetOf left (now (now (nodes .entry))) (linkAt (now (now (nodes .entry))) at 3))) ⌝ }
 {
     let x = operand(nodes, at + 1, left, bounds);
     let y = operand(nodes, nodes::link(nodes, at, 3), left, bounds);
@@ -115,11 +115,11 @@ fn two_small(nodes: &[i64; 2560], at: usize, left: usize, bounds: &[i64]) -> boo
 }
 
 // The two tests below a node.
-fn two_tests(nodes: &[i64; 2560], at: usize, left: usize, bounds: &[i64]) -> bool
-    requires { ⌜ TestsReady left (now nodes) at × InBounds (now bounds) ⌝ }
+fn two_tests(nodes: &&[i64], at: usize, left: usize, bounds: &[i64]) -> bool
+    requires { ⌜ TestsReady left (now (now nodes)) at × InBounds (now bounds) ⌝ }
     ensures { λ r. ⌜ r ≡
-        (testSmall (boundIn (now (bounds .entry))) (testAt offsetOf left (now (nodes .entry)) (at + 1)) &&
-        testSmall (boundIn (now (bounds .entry))) (testAt offsetOf left (now (nodes .entry)) (linkAt (now (nodes .entry)) at 3))) ⌝ }
+        (testSmall (boundIn (now (bounds .entry))) (testAt offsetOf left (now (now (nodes .entry))) (at + 1)) &&
+        testSmall (boundIn (now (bounds .entry))) (testAt offsetOf left (now (now (nodes .entry))) (linkAt (now (now (nodes .entry))) at 3))) ⌝ }
 {
     let x = test_small(nodes, at + 1, left, bounds);
     let y = test_small(nodes, nodes::link(nodes, at, 3), left, bounds);

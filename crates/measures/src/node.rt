@@ -1,10 +1,9 @@
 // A node's letter and fields.
 ghost use mathlib.Core.Path.{_≡_};
 ghost use mathlib.Core.Bool.{true};
-ghost use Prim.Native.Nat.{_<_};
 ghost use lib.IntN.{pos};
 ghost use Rattle.nodes.specs.Letters.{planLetter, amountLetter, testLetter};
-ghost use Rattle.nodes.specs.Table.{slotAt, natOf};
+ghost use Rattle.nodes.specs.Table.{RowIn, slotAt, natOf};
 ghost use Rattle.nodes.specs.declared.PlanLetter.the-variants.{Transfer};
 ghost use Rattle.measures.specs.Rows.{isIndex};
 use integers::Month;
@@ -12,31 +11,31 @@ use nodes::AmountLetter;
 use nodes::PlanLetter;
 use nodes::TestLetter;
 
-pub fn plan_kind(nodes: &[i64; 2560], at: usize) -> PlanLetter
-    requires { ⌜ at < 512 ⌝ }
-    ensures { λ r. ⌜ r ≡ planLetter (slotAt (now (nodes .entry)) at 0) ⌝ }
+pub fn plan_kind(nodes: &&[i64], at: usize) -> PlanLetter
+    requires { ⌜ RowIn (now (now nodes)) at ⌝ }
+    ensures { λ r. ⌜ r ≡ planLetter (slotAt (now (now (nodes .entry))) at 0) ⌝ }
 {
     nodes::plan_letter(nodes::slot(nodes, at, 0))
 }
 
-pub fn amount_kind(nodes: &[i64; 2560], at: usize) -> AmountLetter
-    requires { ⌜ at < 512 ⌝ }
-    ensures { λ r. ⌜ r ≡ amountLetter (slotAt (now (nodes .entry)) at 0) ⌝ }
+pub fn amount_kind(nodes: &&[i64], at: usize) -> AmountLetter
+    requires { ⌜ RowIn (now (now nodes)) at ⌝ }
+    ensures { λ r. ⌜ r ≡ amountLetter (slotAt (now (now (nodes .entry))) at 0) ⌝ }
 {
     nodes::amount_letter(nodes::slot(nodes, at, 0))
 }
 
-pub fn test_kind(nodes: &[i64; 2560], at: usize) -> TestLetter
-    requires { ⌜ at < 512 ⌝ }
-    ensures { λ r. ⌜ r ≡ testLetter (slotAt (now (nodes .entry)) at 0) ⌝ }
+pub fn test_kind(nodes: &&[i64], at: usize) -> TestLetter
+    requires { ⌜ RowIn (now (now nodes)) at ⌝ }
+    ensures { λ r. ⌜ r ≡ testLetter (slotAt (now (now (nodes .entry))) at 0) ⌝ }
 {
     nodes::test_letter(nodes::slot(nodes, at, 0))
 }
 
 // A delay below zero counts as none.
-pub fn delay(nodes: &[i64; 2560], at: usize) -> Month
-    requires { ⌜ at < 512 ⌝ }
-    ensures { λ r. ⌜ r .0 ≡ pos (natOf (slotAt (now (nodes .entry)) at 1)) ⌝ }
+pub fn delay(nodes: &&[i64], at: usize) -> Month
+    requires { ⌜ RowIn (now (now nodes)) at ⌝ }
+    ensures { λ r. ⌜ r .0 ≡ pos (natOf (slotAt (now (now (nodes .entry))) at 1)) ⌝ }
 {
     let d = nodes::slot(nodes, at, 1);
     if d < 0 {
@@ -45,34 +44,34 @@ pub fn delay(nodes: &[i64; 2560], at: usize) -> Month
     Month(d)
 }
 
-pub fn is_index(nodes: &[i64; 2560], at: usize) -> bool
-    requires { ⌜ at < 512 ⌝ }
-    ensures { λ r. ⌜ r ≡ isIndex (slotAt (now (nodes .entry)) at 0) ⌝ }
+pub fn is_index(nodes: &&[i64], at: usize) -> bool
+    requires { ⌜ RowIn (now (now nodes)) at ⌝ }
+    ensures { λ r. ⌜ r ≡ isIndex (slotAt (now (now (nodes .entry))) at 0) ⌝ }
 {
     let x = nodes::slot(nodes, at, 0);
     x == 79
 }
 
-pub fn is_transfer(nodes: &[i64; 2560], at: usize) -> bool
-    requires { ⌜ at < 512 ⌝ }
-    ensures { λ r. ⌜ (r ≡ true → planLetter (slotAt (now (nodes .entry)) at 0) ≡ Transfer) ⌝ }
+pub fn is_transfer(nodes: &&[i64], at: usize) -> bool
+    requires { ⌜ RowIn (now (now nodes)) at ⌝ }
+    ensures { λ r. ⌜ (r ≡ true → planLetter (slotAt (now (now (nodes .entry))) at 0) ≡ Transfer) ⌝ }
 {
     let x = nodes::slot(nodes, at, 0);
     x == 84
 }
 
 // The offset of an `O`.
-pub fn offset(nodes: &[i64; 2560], at: usize) -> Month
-    requires { ⌜ at < 512 ⌝ }
-    ensures { λ r. ⌜ r .0 ≡ slotAt (now (nodes .entry)) at 2 ⌝ }
+pub fn offset(nodes: &&[i64], at: usize) -> Month
+    requires { ⌜ RowIn (now (now nodes)) at ⌝ }
+    ensures { λ r. ⌜ r .0 ≡ slotAt (now (now (nodes .entry))) at 2 ⌝ }
 {
     Month(nodes::slot(nodes, at, 2))
 }
 
 // The label of an `O`; one below zero counts as 0.
-pub fn label(nodes: &[i64; 2560], at: usize) -> usize
-    requires { ⌜ at < 512 ⌝ }
-    ensures { λ r. ⌜ r ≡ natOf (slotAt (now (nodes .entry)) at 1) ⌝ }
+pub fn label(nodes: &&[i64], at: usize) -> usize
+    requires { ⌜ RowIn (now (now nodes)) at ⌝ }
+    ensures { λ r. ⌜ r ≡ natOf (slotAt (now (now (nodes .entry))) at 1) ⌝ }
 {
     let l = nodes::slot(nodes, at, 1);
     if l < 0 {
@@ -82,9 +81,9 @@ pub fn label(nodes: &[i64; 2560], at: usize) -> usize
 }
 
 // The offset of an `O`; one below zero counts as 0.
-pub fn ahead(nodes: &[i64; 2560], at: usize) -> u64
-    requires { ⌜ at < 512 ⌝ }
-    ensures { λ r. ⌜ r ≡ natOf (slotAt (now (nodes .entry)) at 2) ⌝ }
+pub fn ahead(nodes: &&[i64], at: usize) -> u64
+    requires { ⌜ RowIn (now (now nodes)) at ⌝ }
+    ensures { λ r. ⌜ r ≡ natOf (slotAt (now (now (nodes .entry))) at 2) ⌝ }
 {
     let i = nodes::slot(nodes, at, 2);
     if i < 0 {
@@ -94,9 +93,9 @@ pub fn ahead(nodes: &[i64; 2560], at: usize) -> u64
 }
 
 // A delay as a plain number; one below zero counts as none.
-pub fn months(nodes: &[i64; 2560], at: usize) -> u64
-    requires { ⌜ at < 512 ⌝ }
-    ensures { λ r. ⌜ r ≡ natOf (slotAt (now (nodes .entry)) at 1) ⌝ }
+pub fn months(nodes: &&[i64], at: usize) -> u64
+    requires { ⌜ RowIn (now (now nodes)) at ⌝ }
+    ensures { λ r. ⌜ r ≡ natOf (slotAt (now (now (nodes .entry))) at 1) ⌝ }
 {
     let d = nodes::slot(nodes, at, 1);
     if d < 0 {

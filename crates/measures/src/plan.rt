@@ -38,10 +38,10 @@ pub struct Measures {
 // ---- an amount and a test, from the magnitudes of their rows summed
 
 // The magnitude of an amount: the sum, or by a walk where that is beyond the limit.
-fn amount_of(nodes: &[i64; 2560], at: usize, rows: u64, bounds: &[i64]) -> u64
-    requires { ⌜ AmountReady 512 (now nodes) at × InBounds (now bounds)
-        × (rows ≤ maxAmount → rows ≡ measuredAmount (boundIn (now bounds)) (amountAt offsetOf 512 (now nodes) at)) ⌝ }
-    ensures { λ r. ⌜ r ≡ measuredAmount (boundIn (now (bounds .entry))) (amountAt offsetOf 512 (now (nodes .entry)) at) ⌝ }
+fn amount_of(nodes: &&[i64], at: usize, rows: u64, bounds: &[i64]) -> u64
+    requires { ⌜ AmountReady 512 (now (now nodes)) at × InBounds (now bounds)
+        × (rows ≤ maxAmount → rows ≡ measuredAmount (boundIn (now bounds)) (amountAt offsetOf 512 (now (now nodes)) at)) ⌝ }
+    ensures { λ r. ⌜ r ≡ measuredAmount (boundIn (now (bounds .entry))) (amountAt offsetOf 512 (now (now (nodes .entry))) at) ⌝ }
 {
     if limit::is_within(rows) {
         return rows;
@@ -50,10 +50,10 @@ fn amount_of(nodes: &[i64; 2560], at: usize, rows: u64, bounds: &[i64]) -> u64
 }
 
 // Whether a test is small: so it is where the sum is within the limit.
-fn test_of(nodes: &[i64; 2560], at: usize, rows: u64, bounds: &[i64]) -> bool
-    requires { ⌜ TestReady 512 (now nodes) at × InBounds (now bounds)
-        × (rows ≤ maxAmount → testSmall (boundIn (now bounds)) (testAt offsetOf 512 (now nodes) at) ≡ true) ⌝ }
-    ensures { λ r. ⌜ r ≡ testSmall (boundIn (now (bounds .entry))) (testAt offsetOf 512 (now (nodes .entry)) at) ⌝ }
+fn test_of(nodes: &&[i64], at: usize, rows: u64, bounds: &[i64]) -> bool
+    requires { ⌜ TestReady 512 (now (now nodes)) at × InBounds (now bounds)
+        × (rows ≤ maxAmount → testSmall (boundIn (now bounds)) (testAt offsetOf 512 (now (now nodes)) at) ≡ true) ⌝ }
+    ensures { λ r. ⌜ r ≡ testSmall (boundIn (now (bounds .entry))) (testAt offsetOf 512 (now (now (nodes .entry))) at) ⌝ }
 {
     if limit::is_within(rows) {
         return true;
@@ -178,7 +178,7 @@ fn of_within(d: u64, rows: Rows, small: bool, x: Measures, y: Measures) -> Measu
 
 // A plan whose node may stand in any month from the first to the last.
 pub fn measure_plan(
-    nodes: &[i64; 2560],
+    nodes: &&[i64],
     at: usize,
     left: usize,
     first: Month,
@@ -186,8 +186,8 @@ pub fn measure_plan(
     span: Reach,
     bounds: &[i64],
 ) -> Measures
-    requires { ⌜ PlanReady left (now nodes) at × InReach left first last span × InBounds (now bounds) ⌝ }
-    ensures { λ r. ⌜ MeasuresOf (tableOf span) (natOf (first .0)) (natOf (last .0)) (boundIn (now (bounds .entry))) (planAt natOf left (now (nodes .entry)) at) r ⌝ }
+    requires { ⌜ PlanReady left (now (now nodes)) at × InReach left first last span × InBounds (now bounds) ⌝ }
+    ensures { λ r. ⌜ MeasuresOf (tableOf span) (natOf (first .0)) (natOf (last .0)) (boundIn (now (bounds .entry))) (planAt natOf left (now (now (nodes .entry))) at) r ⌝ }
 {
     let letter = node::plan_kind(nodes, at);
     match letter {

@@ -1,6 +1,6 @@
 // What a plan may read: the months and labels of a table, and the offsets that can be read from a node.
 ghost use mathlib.Core.Path.{_≡_};
-ghost use Prim.Native.Nat.{_<_};
+ghost use Rattle.nodes.specs.Table.{RowIn};
 ghost use Rattle.measures.specs.Rows.{rowReads};
 ghost use Rattle.measures.specs.Spans.{InReach, windowOf};
 use crate::node;
@@ -35,9 +35,9 @@ pub fn window_of(first: Month, last: Month, span: Reach) -> Window
     }
 }
 
-pub fn row_reads(nodes: &[i64; 2560], at: usize, w: Window) -> bool
-    requires { ⌜ at < 512 ⌝ }
-    ensures { λ r. ⌜ r ≡ rowReads w (now (nodes .entry)) at ⌝ }
+pub fn row_reads(nodes: &&[i64], at: usize, w: Window) -> bool
+    requires { ⌜ RowIn (now (now nodes)) at ⌝ }
+    ensures { λ r. ⌜ r ≡ rowReads w (now (now (nodes .entry))) at ⌝ }
 {
     if node::is_index(nodes, at) {
         let l = node::label(nodes, at);

@@ -1,6 +1,8 @@
 // What the rows of an amount or test give: their latest read, whether all of it lies in a window, and their magnitudes summed.
 ghost use mathlib.Core.Path.{_≡_};
-ghost use Prim.Native.Nat.{_-_, _<_, _≤_};
+ghost use Prim.Native.Nat.{_*_, _-_, _≤_};
+ghost use lib.ListN.{length};
+ghost use Rattle.nodes.specs.Table.{RowIn};
 ghost use Rattle.measures.specs.Magnitudes.{InBounds, boundIn};
 ghost use Rattle.measures.specs.Rows.{rowLatest, rowMagnitude, rowsLatest, rowsMagnitude, rowsRead};
 ghost use Rattle.measures.specs.Timing.{latestMonth};
@@ -20,9 +22,9 @@ pub struct Rows {
 }
 
 // What a row reads that is yet to come, else 0.
-fn row_latest(nodes: &[i64; 2560], at: usize) -> u64
-    requires { ⌜ at < 512 ⌝ }
-    ensures { λ r. ⌜ r ≡ latestMonth (rowLatest (now (nodes .entry)) at) ⌝ }
+fn row_latest(nodes: &&[i64], at: usize) -> u64
+    requires { ⌜ RowIn (now (now nodes)) at ⌝ }
+    ensures { λ r. ⌜ r ≡ latestMonth (rowLatest (now (now (nodes .entry))) at) ⌝ }
 {
     if node::is_index(nodes, at) {
         return node::ahead(nodes, at);
@@ -31,9 +33,9 @@ fn row_latest(nodes: &[i64; 2560], at: usize) -> u64
 }
 
 // What a row adds to the magnitudes of rows.
-fn row_magnitude(nodes: &[i64; 2560], at: usize, bounds: &[i64]) -> u64
-    requires { ⌜ at < 512 ⌝ }
-    ensures { λ r. ⌜ r ≡ rowMagnitude (boundIn (now (bounds .entry))) (now (nodes .entry)) at ⌝ }
+fn row_magnitude(nodes: &&[i64], at: usize, bounds: &[i64]) -> u64
+    requires { ⌜ RowIn (now (now nodes)) at ⌝ }
+    ensures { λ r. ⌜ r ≡ rowMagnitude (boundIn (now (bounds .entry))) (now (now (nodes .entry))) at ⌝ }
 {
     let letter = node::amount_kind(nodes, at);
     match letter {
@@ -49,12 +51,12 @@ fn row_magnitude(nodes: &[i64; 2560], at: usize, bounds: &[i64]) -> u64
 }
 
 // The rows from one on up to another.
-pub fn read_rows(nodes: &[i64; 2560], from: usize, to: usize, w: Window, bounds: &[i64]) -> Rows
-    requires { ⌜ (from ≤ to) × (to ≤ 512) × InBounds (now bounds) ⌝ }
+pub fn read_rows(nodes: &&[i64], from: usize, to: usize, w: Window, bounds: &[i64]) -> Rows
+    requires { ⌜ (from ≤ to) × (to ≤ 512) × (5 * to ≤ length (now (now nodes))) × InBounds (now bounds) ⌝ }
     ensures { λ r. ⌜
-        (r .latest ≡ latestMonth (rowsLatest (now (nodes .entry)) (to - from) from)) ×
-        (r .reads ≡ rowsRead w (now (nodes .entry)) (to - from) from) ×
-        (r .magnitude ≡ rowsMagnitude (boundIn (now (bounds .entry))) (now (nodes .entry)) (to - from) from) ⌝ }
+        (r .latest ≡ latestMonth (rowsLatest (now (now (nodes .entry))) (to - from) from)) ×
+        (r .reads ≡ rowsRead w (now (now (nodes .entry))) (to - from) from) ×
+        (r .magnitude ≡ rowsMagnitude (boundIn (now (bounds .entry))) (now (now (nodes .entry))) (to - from) from) ⌝ }
 {
     let mut latest = 0u64;
     let mut total = 0u64;

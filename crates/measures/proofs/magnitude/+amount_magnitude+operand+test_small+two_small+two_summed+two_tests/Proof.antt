@@ -42,76 +42,76 @@ use mir.Syntax.{w64}
 use mir.Val.{SFits}
 use native.Mathlib.Omega.{arith}
 
-abbrev μ-amount-magnitude : Measures 2 amount-magnitude-kinds.ps ℕ
+abbrev μ-amount-magnitude : Measures 3 amount-magnitude-kinds.ps ℕ
 μ-amount-magnitude κs a = 3 * a .1 .1 .0
 
-abbrev μ-operand : Measures 2 operand-kinds.ps ℕ
+abbrev μ-operand : Measures 3 operand-kinds.ps ℕ
 μ-operand κs a = 3 * a .1 .1 .0 + 1
 
-abbrev μ-test-small : Measures 2 test-small-kinds.ps ℕ
+abbrev μ-test-small : Measures 3 test-small-kinds.ps ℕ
 μ-test-small κs a = 3 * a .1 .1 .0
 
-abbrev μ-two-small : Measures 2 two-small-kinds.ps ℕ
+abbrev μ-two-small : Measures 3 two-small-kinds.ps ℕ
 μ-two-small κs a = 3 * a .1 .1 .0 + 2
 
-abbrev μ-two-summed : Measures 2 two-summed-kinds.ps ℕ
+abbrev μ-two-summed : Measures 3 two-summed-kinds.ps ℕ
 μ-two-summed κs a = 3 * a .1 .1 .0 + 2
 
-abbrev μ-two-tests : Measures 2 two-tests-kinds.ps ℕ
+abbrev μ-two-tests : Measures 3 two-tests-kinds.ps ℕ
 μ-two-tests κs a = 3 * a .1 .1 .0 + 2
 
-abbrev amount-magnitude-at : ℕ → In 2 amount-magnitude-kinds.ps
+abbrev amount-magnitude-at : ℕ → In 3 amount-magnitude-kinds.ps
 amount-magnitude-at t =
     and
-    2
+    3
     amount-magnitude-kinds.ps
-    (is 2 amount-magnitude-kinds.ps μ-amount-magnitude t)
+    (is 3 amount-magnitude-kinds.ps μ-amount-magnitude t)
     amount-magnitude.Pre
 
-abbrev amount-magnitude-below : ℕ → In 2 amount-magnitude-kinds.ps
+abbrev amount-magnitude-below : ℕ → In 3 amount-magnitude-kinds.ps
 amount-magnitude-below t =
     and
-    2
+    3
     amount-magnitude-kinds.ps
-    (falls 2 amount-magnitude-kinds.ps _<_ μ-amount-magnitude t)
+    (falls 3 amount-magnitude-kinds.ps _<_ μ-amount-magnitude t)
     amount-magnitude.Pre
 
-abbrev operand-at : ℕ → In 2 operand-kinds.ps
-operand-at t = and 2 operand-kinds.ps (is 2 operand-kinds.ps μ-operand t) operand.Pre
+abbrev operand-at : ℕ → In 3 operand-kinds.ps
+operand-at t = and 3 operand-kinds.ps (is 3 operand-kinds.ps μ-operand t) operand.Pre
 
-abbrev operand-below : ℕ → In 2 operand-kinds.ps
-operand-below t = and 2 operand-kinds.ps (falls 2 operand-kinds.ps _<_ μ-operand t) operand.Pre
+abbrev operand-below : ℕ → In 3 operand-kinds.ps
+operand-below t = and 3 operand-kinds.ps (falls 3 operand-kinds.ps _<_ μ-operand t) operand.Pre
 
-abbrev test-small-at : ℕ → In 2 test-small-kinds.ps
+abbrev test-small-at : ℕ → In 3 test-small-kinds.ps
 test-small-at t =
-    and 2 test-small-kinds.ps (is 2 test-small-kinds.ps μ-test-small t) test-small.Pre
+    and 3 test-small-kinds.ps (is 3 test-small-kinds.ps μ-test-small t) test-small.Pre
 
-abbrev test-small-below : ℕ → In 2 test-small-kinds.ps
+abbrev test-small-below : ℕ → In 3 test-small-kinds.ps
 test-small-below t =
-    and 2 test-small-kinds.ps (falls 2 test-small-kinds.ps _<_ μ-test-small t) test-small.Pre
+    and 3 test-small-kinds.ps (falls 3 test-small-kinds.ps _<_ μ-test-small t) test-small.Pre
 
-abbrev two-small-at : ℕ → In 2 two-small-kinds.ps
+abbrev two-small-at : ℕ → In 3 two-small-kinds.ps
 two-small-at t =
-    and 2 two-small-kinds.ps (is 2 two-small-kinds.ps μ-two-small t) two-small.Pre
+    and 3 two-small-kinds.ps (is 3 two-small-kinds.ps μ-two-small t) two-small.Pre
 
-abbrev two-summed-at : ℕ → In 2 two-summed-kinds.ps
+abbrev two-summed-at : ℕ → In 3 two-summed-kinds.ps
 two-summed-at t =
-    and 2 two-summed-kinds.ps (is 2 two-summed-kinds.ps μ-two-summed t) two-summed.Pre
+    and 3 two-summed-kinds.ps (is 3 two-summed-kinds.ps μ-two-summed t) two-summed.Pre
 
-abbrev two-small-below : ℕ → In 2 two-small-kinds.ps
+abbrev two-small-below : ℕ → In 3 two-small-kinds.ps
 two-small-below t =
-    and 2 two-small-kinds.ps (falls 2 two-small-kinds.ps _<_ μ-two-small t) two-small.Pre
+    and 3 two-small-kinds.ps (falls 3 two-small-kinds.ps _<_ μ-two-small t) two-small.Pre
 
-abbrev two-summed-below : ℕ → In 2 two-summed-kinds.ps
+abbrev two-summed-below : ℕ → In 3 two-summed-kinds.ps
 two-summed-below t =
-    and 2 two-summed-kinds.ps (falls 2 two-summed-kinds.ps _<_ μ-two-summed t) two-summed.Pre
+    and 3 two-summed-kinds.ps (falls 3 two-summed-kinds.ps _<_ μ-two-summed t) two-summed.Pre
 
-abbrev two-tests-at : ℕ → In 2 two-tests-kinds.ps
-two-tests-at t = and 2 two-tests-kinds.ps (is 2 two-tests-kinds.ps μ-two-tests t) two-tests.Pre
+abbrev two-tests-at : ℕ → In 3 two-tests-kinds.ps
+two-tests-at t = and 3 two-tests-kinds.ps (is 3 two-tests-kinds.ps μ-two-tests t) two-tests.Pre
 
-abbrev two-tests-below : ℕ → In 2 two-tests-kinds.ps
+abbrev two-tests-below : ℕ → In 3 two-tests-kinds.ps
 two-tests-below t =
-    and 2 two-tests-kinds.ps (falls 2 two-tests-kinds.ps _<_ μ-two-tests t) two-tests.Pre
+    and 3 two-tests-kinds.ps (falls 3 two-tests-kinds.ps _<_ μ-two-tests t) two-tests.Pre
 
 abbrev amount-magnitude-calls : ℕ → amount-magnitude-lts.Claims
 amount-magnitude-calls t = (
@@ -185,7 +185,7 @@ amount-magnitude-two-summed-requires-2 t c κs =
 amount-magnitude-add-operand : (t : ℕ) → amount-magnitude-lts.Need-add-operand (amount-magnitude-calls t) (amount-magnitude-at t) amount-magnitude.Post
 amount-magnitude-add-operand t c =
     let h = c .before .before .before .pre .1 .0 in
-    omega (arith, amounts.amount-room h)
+    omega (arith, amounts.amount-room h .0)
 
 amount-magnitude-sub-operand : (t : ℕ) → amount-magnitude-lts.Need-sub-operand (amount-magnitude-calls t) (amount-magnitude-at t) amount-magnitude.Post
 amount-magnitude-sub-operand t c =
@@ -223,7 +223,7 @@ amount-magnitude-operand-requires-2 t c κs =
 amount-magnitude-add-amount-magnitude : (t : ℕ) → amount-magnitude-lts.Need-add-amount-magnitude (amount-magnitude-calls t) (amount-magnitude-at t) amount-magnitude.Post
 amount-magnitude-add-amount-magnitude t c =
     let h = c .before .before .before .pre .1 .0 in
-    omega (arith, amounts.amount-room h)
+    omega (arith, amounts.amount-room h .0)
 
 amount-magnitude-sub-amount-magnitude : (t : ℕ) → amount-magnitude-lts.Need-sub-amount-magnitude (amount-magnitude-calls t) (amount-magnitude-at t) amount-magnitude.Post
 amount-magnitude-sub-amount-magnitude t c =
@@ -241,7 +241,7 @@ amount-magnitude-amount-magnitude-requires t c κs =
 amount-magnitude-add-test-small : (t : ℕ) → amount-magnitude-lts.Need-add-test-small (amount-magnitude-calls t) (amount-magnitude-at t) amount-magnitude.Post
 amount-magnitude-add-test-small t c =
     let h = c .before .before .before .pre .1 .0 in
-    omega (arith, amounts.amount-room h)
+    omega (arith, amounts.amount-room h .0)
 
 amount-magnitude-sub-test-small : (t : ℕ) → amount-magnitude-lts.Need-sub-test-small (amount-magnitude-calls t) (amount-magnitude-at t) amount-magnitude.Post
 amount-magnitude-sub-test-small t c =
@@ -547,7 +547,7 @@ test-small-two-tests-requires-2 t c κs =
 test-small-add-test-small : (t : ℕ) → test-small-lts.Need-add-test-small (test-small-calls t) (test-small-at t) test-small.Post
 test-small-add-test-small t c =
     let h = c .before .before .before .pre .1 .0 in
-    omega (arith, amounts.test-room h)
+    omega (arith, amounts.test-room h .0)
 
 test-small-sub-test-small : (t : ℕ) → test-small-lts.Need-sub-test-small (test-small-calls t) (test-small-at t) test-small.Post
 test-small-sub-test-small t c =
@@ -644,7 +644,7 @@ two-small-calls t = (operand-below t, operand.Post, link-reads.Asked, link-reads
 two-small-add-operand : (t : ℕ) → two-small-lts.Need-add-operand (two-small-calls t) (two-small-at t) two-small.Post
 two-small-add-operand t c =
     let h = c .pre .1 .0 in
-    omega (arith, h .room)
+    omega (arith, h .room .0)
 
 two-small-operand-requires : (t : ℕ) → two-small-lts.Need-operand-requires (two-small-calls t) (two-small-at t) two-small.Post
 two-small-operand-requires t c κs =
@@ -686,7 +686,7 @@ two-summed-calls t = (operand-below t, operand.Post, link-reads.Asked, link-read
 two-summed-add-operand : (t : ℕ) → two-summed-lts.Need-add-operand (two-summed-calls t) (two-summed-at t) two-summed.Post
 two-summed-add-operand t c =
     let h = c .pre .1 .0 in
-    omega (arith, h .room)
+    omega (arith, h .room .0)
 
 two-summed-operand-requires : (t : ℕ) → two-summed-lts.Need-operand-requires (two-summed-calls t) (two-summed-at t) two-summed.Post
 two-summed-operand-requires t c κs =
@@ -730,7 +730,7 @@ two-tests-calls t = (test-small-below t, test-small.Post, link-reads.Asked, link
 two-tests-add-test-small : (t : ℕ) → two-tests-lts.Need-add-test-small (two-tests-calls t) (two-tests-at t) two-tests.Post
 two-tests-add-test-small t c =
     let h = c .pre .1 .0 in
-    omega (arith, h .room)
+    omega (arith, h .room .0)
 
 two-tests-test-small-requires : (t : ℕ) → two-tests-lts.Need-test-small-requires (two-tests-calls t) (two-tests-at t) two-tests.Post
 two-tests-test-small-requires t c κs =

@@ -37,17 +37,17 @@ use Rattle.nodes.proofs.link.Reads as link-reads
 use Rattle.measures.proofs.plan.+measure_plan.{statement}
 use Rattle.measures.proofs.plan.+measure_plan.Tie.{close}
 
-abbrev μ-measure-plan : Measures 2 measure-plan-kinds.ps ℕ
+abbrev μ-measure-plan : Measures 3 measure-plan-kinds.ps ℕ
 μ-measure-plan κs a = a .1 .1 .0
 
-abbrev measure-plan-at : ℕ → In 2 measure-plan-kinds.ps
-measure-plan-at t = and 2 measure-plan-kinds.ps (is 2 measure-plan-kinds.ps μ-measure-plan t) measure-plan.Pre
+abbrev measure-plan-at : ℕ → In 3 measure-plan-kinds.ps
+measure-plan-at t = and 3 measure-plan-kinds.ps (is 3 measure-plan-kinds.ps μ-measure-plan t) measure-plan.Pre
 
-abbrev measure-plan-below : ℕ → In 2 measure-plan-kinds.ps
+abbrev measure-plan-below : ℕ → In 3 measure-plan-kinds.ps
 measure-plan-below t = and
-    2
+    3
     measure-plan-kinds.ps
-    (falls 2 measure-plan-kinds.ps _<_ μ-measure-plan t)
+    (falls 3 measure-plan-kinds.ps _<_ μ-measure-plan t)
     measure-plan.Pre
 
 abbrev measure-plan-calls : ℕ → measure-plan-lts.Claims
@@ -71,7 +71,7 @@ measure-plan-window-of-requires t c κs =
 measure-plan-add-read-rows : (t : ℕ) → measure-plan-lts.Need-add-read-rows (measure-plan-calls t) (measure-plan-at t) measure-plan.Post
 measure-plan-add-read-rows t c =
     let h = c .before .before .before .before .before .pre .1 .0 in
-    omega (arith, plans.plan-room h)
+    omega (arith, plans.plan-room h .0)
 
 measure-plan-read-rows-requires : (t : ℕ) → measure-plan-lts.Need-read-rows-requires (measure-plan-calls t) (measure-plan-at t) measure-plan.Post
 measure-plan-read-rows-requires t c κs =
@@ -80,12 +80,12 @@ measure-plan-read-rows-requires t c κs =
     let k = c .before .before .before .before .plan-kind .ensures in
     let q = c .before .before .enum-told3 .given .1 in
     let r = rows.scale-rows h k (c .before .link .ensures) q in
-    (r .0, r .1, b)
+    (r .0, r .1, r .2, b)
 
 measure-plan-add-amount-of : (t : ℕ) → measure-plan-lts.Need-add-amount-of (measure-plan-calls t) (measure-plan-at t) measure-plan.Post
 measure-plan-add-amount-of t c =
     let h = c .before .before .before .before .before .before .pre .1 .0 in
-    omega (arith, plans.plan-room h)
+    omega (arith, plans.plan-room h .0)
 
 measure-plan-amount-of-requires : (t : ℕ) → measure-plan-lts.Need-amount-of-requires (measure-plan-calls t) (measure-plan-at t) measure-plan.Post
 measure-plan-amount-of-requires t c κs =
@@ -108,7 +108,7 @@ measure-plan-of-scale-requires t c κs =
     let k = c .before .before .before .before .before .before .before .before .before .plan-kind .ensures in
     let q = c .before .before .before .before .before .before .before .enum-told3 .given .1 in
     let a = c .before .before .before .before .before .before .before .before .before .before .args in
-    let r : PlanReady (a .left - 1) (a .nodes .now) (c .before .before .before .before .before .before .link .result) = rw (c .before .before .before .before .before .before .link .ensures) (plans.scale-ready h k q .2) in
+    let r : PlanReady (a .left - 1) (a .nodes .now .now) (c .before .before .before .before .before .before .link .result) = rw (c .before .before .before .before .before .before .link .ensures) (plans.scale-ready h k q .2) in
     laws.measures-addable (tableOf (a .span)) 0 0 (boundIn (a .bounds .now)) r (laws.measures-given _ _ _ _ (laws.transfer-is r refl (c .before .before .is-transfer .ensures (c .before .if1 .taken))) (c .of-transfer2 .ensures _ _ _ _ _ _))
 
 measure-plan-returns : (t : ℕ) → measure-plan-lts.Need-returns (measure-plan-calls t) (measure-plan-at t) measure-plan.Post
@@ -118,7 +118,7 @@ measure-plan-returns t c =
     let k = c .before .before .before .before .before .before .before .before .before .before .plan-kind .ensures in
     let q = c .before .before .before .before .before .before .before .before .enum-told3 .given .1 in
     let a = c .before .before .before .before .before .before .before .before .before .before .before .args in
-    let r : PlanReady (a .left - 1) (a .nodes .now) (c .before .before .before .before .before .before .before .link .result) = rw (c .before .before .before .before .before .before .before .link .ensures) (plans.scale-ready h k q .2) in
+    let r : PlanReady (a .left - 1) (a .nodes .now .now) (c .before .before .before .before .before .before .before .link .result) = rw (c .before .before .before .before .before .before .before .link .ensures) (plans.scale-ready h k q .2) in
     let l = rows.scale-latest h k (c .before .before .before .before .before .before .before .link .ensures) (c .before .before .before .before .before .read-rows .ensures .0) q in
     let w = rows.scale-window h k (c .before .before .before .before .before .before .before .link .ensures) m (c .before .before .before .before .before .before .window-of .ensures) (c .before .before .before .before .before .read-rows .ensures .1) q in
     let x = laws.measures-given _ _ _ _ (laws.transfer-is r refl (c .before .before .before .is-transfer .ensures (c .before .before .if1 .taken))) (c .before .of-transfer2 .ensures _ _ _ _ _ _) in
@@ -144,7 +144,7 @@ measure-plan-of-scale-requires-2 t c κs =
     let k = c .before .before .before .before .before .before .before .before .before .plan-kind .ensures in
     let q = c .before .before .before .before .before .before .before .enum-told3 .given .1 in
     let a = c .before .before .before .before .before .before .before .before .before .before .args in
-    let r : PlanReady (a .left - 1) (a .nodes .now) (c .before .before .before .before .before .before .link .result) = rw (c .before .before .before .before .before .before .link .ensures) (plans.scale-ready h k q .2) in
+    let r : PlanReady (a .left - 1) (a .nodes .now .now) (c .before .before .before .before .before .before .link .result) = rw (c .before .before .before .before .before .before .link .ensures) (plans.scale-ready h k q .2) in
     laws.measures-addable _ _ _ _ r (c .measure-plan .ensures)
 
 measure-plan-delay-requires : (t : ℕ) → measure-plan-lts.Need-delay-requires (measure-plan-calls t) (measure-plan-at t) measure-plan.Post
@@ -171,7 +171,7 @@ measure-plan-later-requires-2 t c κs =
 measure-plan-add-measure-plan : (t : ℕ) → measure-plan-lts.Need-add-measure-plan (measure-plan-calls t) (measure-plan-at t) measure-plan.Post
 measure-plan-add-measure-plan t c =
     let h = c .before .before .before .before .before .before .pre .1 .0 in
-    omega (arith, plans.plan-room h)
+    omega (arith, plans.plan-room h .0)
 
 measure-plan-sub-measure-plan-2 : (t : ℕ) → measure-plan-lts.Need-sub-measure-plan-2 (measure-plan-calls t) (measure-plan-at t) measure-plan.Post
 measure-plan-sub-measure-plan-2 t c =
@@ -213,7 +213,7 @@ measure-plan-link-requires-2 t c κs =
 measure-plan-add-measure-plan-2 : (t : ℕ) → measure-plan-lts.Need-add-measure-plan-2 (measure-plan-calls t) (measure-plan-at t) measure-plan.Post
 measure-plan-add-measure-plan-2 t c =
     let h = c .before .before .before .before .pre .1 .0 in
-    omega (arith, plans.plan-room h)
+    omega (arith, plans.plan-room h .0)
 
 measure-plan-sub-measure-plan-3 : (t : ℕ) → measure-plan-lts.Need-sub-measure-plan-3 (measure-plan-calls t) (measure-plan-at t) measure-plan.Post
 measure-plan-sub-measure-plan-3 t c =
@@ -249,7 +249,7 @@ measure-plan-of-both-requires t c κs =
     let k = c .before .before .before .before .before .plan-kind .ensures in
     let q = c .before .before .before .enum-told5 .given .1 in
     let a = c .before .before .before .before .before .before .args in
-    let y : PlanReady (a .left - 1) (a .nodes .now) (c .before .before .link2 .result) = rw (c .before .before .link2 .ensures) (plans.both-ready h k q .2) in
+    let y : PlanReady (a .left - 1) (a .nodes .now .now) (c .before .before .link2 .result) = rw (c .before .before .link2 .ensures) (plans.both-ready h k q .2) in
     (laws.measures-addable _ _ _ _ (plans.both-ready h k q .0) (c .before .measure-plan3 .ensures), laws.measures-addable _ _ _ _ y (c .measure-plan4 .ensures))
 
 measure-plan-delay-requires-2 : (t : ℕ) → measure-plan-lts.Need-delay-requires-2 (measure-plan-calls t) (measure-plan-at t) measure-plan.Post
@@ -299,7 +299,7 @@ measure-plan-window-of-requires-2 t c κs =
 measure-plan-add-read-rows-2 : (t : ℕ) → measure-plan-lts.Need-add-read-rows-2 (measure-plan-calls t) (measure-plan-at t) measure-plan.Post
 measure-plan-add-read-rows-2 t c =
     let h = c .before .before .before .before .before .before .before .before .before .pre .1 .0 in
-    omega (arith, plans.plan-room h)
+    omega (arith, plans.plan-room h .0)
 
 measure-plan-read-rows-requires-2 : (t : ℕ) → measure-plan-lts.Need-read-rows-requires-2 (measure-plan-calls t) (measure-plan-at t) measure-plan.Post
 measure-plan-read-rows-requires-2 t c κs =
@@ -308,12 +308,12 @@ measure-plan-read-rows-requires-2 t c κs =
     let k = c .before .before .before .before .before .before .before .before .plan-kind .ensures in
     let q = c .before .before .before .before .before .before .enum-told6 .given .1 in
     let r = rows.within-rows h k (c .before .before .link3 .ensures) q in
-    (r .0, r .1, b)
+    (r .0, r .1, r .2, b)
 
 measure-plan-add-test-of : (t : ℕ) → measure-plan-lts.Need-add-test-of (measure-plan-calls t) (measure-plan-at t) measure-plan.Post
 measure-plan-add-test-of t c =
     let h = c .before .before .before .before .before .before .before .before .before .before .pre .1 .0 in
-    omega (arith, plans.plan-room h)
+    omega (arith, plans.plan-room h .0)
 
 measure-plan-test-of-requires : (t : ℕ) → measure-plan-lts.Need-test-of-requires (measure-plan-calls t) (measure-plan-at t) measure-plan.Post
 measure-plan-test-of-requires t c κs =
@@ -366,8 +366,8 @@ measure-plan-of-within-requires t c κs =
     let k = c .before .before .before .before .before .before .before .before .before .before .before .before .before .plan-kind .ensures in
     let q = c .before .before .before .before .before .before .before .before .before .before .before .enum-told6 .given .1 in
     let a = c .before .before .before .before .before .before .before .before .before .before .before .before .before .before .args in
-    let x : PlanReady (a .left - 1) (a .nodes .now) (c .before .before .before .before .before .before .before .link3 .result) = rw (c .before .before .before .before .before .before .before .link3 .ensures) (plans.within-ready h k q .2 .1) in
-    let y : PlanReady (a .left - 1) (a .nodes .now) (c .before .before .before .before .before .before .link4 .result) = rw (c .before .before .before .before .before .before .link4 .ensures) (plans.within-ready h k q .3 .1) in (
+    let x : PlanReady (a .left - 1) (a .nodes .now .now) (c .before .before .before .before .before .before .before .link3 .result) = rw (c .before .before .before .before .before .before .before .link3 .ensures) (plans.within-ready h k q .2 .1) in
+    let y : PlanReady (a .left - 1) (a .nodes .now .now) (c .before .before .before .before .before .before .link4 .result) = rw (c .before .before .before .before .before .before .link4 .ensures) (plans.within-ready h k q .3 .1) in (
       omega (arith, plans.within-ready h k q .0, c .months2 .ensures),
       laws.measures-addable _ _ _ _ x (c .before .before .measure-plan5 .ensures),
       laws.measures-addable _ _ _ _ y (c .before .measure-plan6 .ensures),

@@ -22,7 +22,7 @@ returns c =
     let high : SFits w64 the-w-high = search needs in
     let f : SFits w64 (c .before .before .before .before .before .before .before .before .before .offset .result .0) = search needs in
     let the-w = c .before .before .before .before .before .before .before .before .before .before .before .before .before .args .w in
-    let the-nodes = c .before .before .before .before .before .before .before .before .before .before .before .before .before .args .nodes .now in
+    let the-nodes = c .before .before .before .before .before .before .before .before .before .before .before .before .before .args .nodes .now .now in
     let the-at = c .before .before .before .before .before .before .before .before .before .before .before .before .before .args .at in
     let is-index-is = c .before .before .before .before .before .before .before .before .before .before .before .before .is-index .ensures in
     let branch = c .before .before .before .before .before .before .before .before .before .before .before .if1 .taken in
@@ -33,7 +33,7 @@ returns c =
 returns-2 : tie.Need-returns-2
 returns-2 c =
     let the-w = c .before .before .args .w in
-    let the-nodes = c .before .before .args .nodes .now in
+    let the-nodes = c .before .before .args .nodes .now .now in
     let the-at = c .before .before .args .at in
     laws.row-other the-w the-nodes the-at (c .before .is-index .ensures) (c .if1 .left)
 

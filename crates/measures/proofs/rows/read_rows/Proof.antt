@@ -13,7 +13,7 @@ use native.Mathlib.Omega.{arith}
 
 abbrev Inv-loop : tie.InvT-loop
 Inv-loop nodes from to w bounds latest₀ total₀ reads₀ at₀ latest total reads at =
-    latests.Passing nodes from to at latest × readings.Passed w nodes from to at reads × sums.Summing (boundIn bounds) nodes from to at total
+    latests.Passing (nodes .now) from to at latest × readings.Passed w (nodes .now) from to at reads × sums.Summing (boundIn bounds) (nodes .now) from to at total
 
 abbrev μ-loop : tie.MeasureT-loop
 μ-loop nodes from to w bounds latest₀ total₀ reads₀ at₀ latest total reads at = to - at
@@ -24,22 +24,22 @@ loop-holds c =
     (latests.passing-none (c .pre .0), record { left = refl }, record { low = omega arith; most = z; left = omega arith })
 
 row-latest-requires : tie.Need-row-latest-requires Inv-loop μ-loop
-row-latest-requires c κs = omega (arith, c .before .before .pre .1)
+row-latest-requires c κs = (omega (arith, c .before .before .pre .1), omega (arith, c .before .before .pre .2))
 
 later-of-requires : tie.Need-later-of-requires Inv-loop μ-loop
 later-of-requires c κs = search needs
 
 row-reads-requires : tie.Need-row-reads-requires Inv-loop μ-loop
-row-reads-requires c κs = omega (arith, c .before .before .before .before .pre .1)
+row-reads-requires c κs = (omega (arith, c .before .before .before .before .pre .1), omega (arith, c .before .before .before .before .pre .2))
 
 row-magnitude-requires : tie.Need-row-magnitude-requires Inv-loop μ-loop
-row-magnitude-requires c κs = omega (arith, c .before .before .before .before .before .pre .1)
+row-magnitude-requires c κs = (omega (arith, c .before .before .before .before .before .pre .1), omega (arith, c .before .before .before .before .before .pre .2))
 
 add-total : tie.Need-add-total Inv-loop μ-loop
 add-total c =
     let s = c .before .before .before .before .before .before in
     let i = c .before .before .before .before .before .loop .inv in
-    let b = bound-at (s .args .bounds .now) (s .pre .2 .within) in
+    let b = bound-at (s .args .bounds .now) (s .pre .3 .within) in
     omega (arith, s .pre .1, sums.summing-most (boundIn (s .args .bounds .now)) (i .2) b (c .row-magnitude .ensures))
 
 add-at : tie.Need-add-at Inv-loop μ-loop
@@ -52,7 +52,7 @@ loop-again : tie.Need-loop-again Inv-loop μ-loop
 loop-again c =
     let s = c .before .before .before .before .before .before in
     let i = c .before .before .before .before .before .loop .inv in
-    let b = bound-at (s .args .bounds .now) (s .pre .2 .within) in (
+    let b = bound-at (s .args .bounds .now) (s .pre .3 .within) in (
       latests.passing-row (i .0) (search needs) (c .before .before .before .row-latest .ensures) (c .before .before .later-of .ensures),
       readings.passed-row (i .1) (search needs) (c .before .row-reads .ensures),
       sums.summing-row (boundIn (s .args .bounds .now)) (i .2) b (c .row-magnitude .ensures) (search needs),
