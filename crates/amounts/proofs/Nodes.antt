@@ -1,5 +1,5 @@
 -- What is known at a node once its letter is: the tree that stands there, that its children stand, and that it can be worked out.
-use Prim.Native.Nat.{_+_, _-_, _<_, suc, zero, ℕ}
+use Prim.Native.Nat.{_+_, _-_, suc, zero, ℕ}
 use lib.IntN.{ℤ}
 use mathlib.Core.List.{List}
 use mathlib.Core.Path.{_∙_, _≡_, ap, refl, subst, sym}

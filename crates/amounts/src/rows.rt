@@ -21,11 +21,11 @@ pub fn number(nodes: &&[i64], at: usize) -> Pence
 }
 
 // The value at a place of the table.
-pub fn value_at(values: &&[i64], i: usize) -> Pence
-    requires { ⌜ i < length (now (now values)) ⌝ }
-    ensures { λ r. ⌜ r .0 ≡ getD (now (now (values .entry))) i (pos 0) ⌝ }
+pub fn value_at(values: &[i64], i: usize) -> Pence
+    requires { ⌜ i < length (now values) ⌝ }
+    ensures { λ r. ⌜ r .0 ≡ getD (now (values .entry)) i (pos 0) ⌝ }
 {
-    let found = lookup::lookup(*values, Place::At(i));
+    let found = lookup::lookup(values, Place::At(i));
     let Found::Value(value) = found else {
         return Pence(0);
     };
@@ -39,7 +39,7 @@ pub fn reading(nodes: &&[i64], values: &&[i64], month: Month, at: usize) -> Penc
 {
     let place = nodes::slot(nodes, at, 2);
     let i = (month.0 + place) as usize;
-    value_at(values, i)
+    value_at(*values, i)
 }
 
 // An amount divided by the number of a `Q`.

@@ -14,21 +14,21 @@ use Rattle.language.specs.Text.Form.{fieldsOfAmount, fieldsOfTest}
 use Rattle.nodes.specs.Found.{amountAt, offsetOf, testAt}
 use Rattle.nodes.specs.Letters.{amountLetter, testLetter}
 use Rattle.nodes.specs.Stands.{AmountStands, TestStands}
-use Rattle.nodes.specs.Table.{slotAt}
+use Rattle.nodes.specs.Table.{RowIn, slotAt}
 use Rattle.nodes.specs.declared.AmountLetter.{AmountLetter}
 use Rattle.nodes.specs.declared.TestLetter.{TestLetter}
 use Rattle.worths.specs.Ranges.{Near}
 
 pub record AmountNode (nodes : List ℤ) (left at : ℕ) (l : AmountLetter) : Type 0 where
   pub some : 0 < left
-  pub inside : at < maxNodes
+  pub inside : RowIn nodes at
   pub stands : amountStandsBy nodes left at l
   pub tree : amountAt offsetOf left nodes at ≡ amountOf nodes left at l
   pub fields : fieldsOfAmount Near (amountOf nodes left at l)
 
 pub record TestNode (nodes : List ℤ) (left at : ℕ) (l : TestLetter) : Type 0 where
   pub some : 0 < left
-  pub inside : at < maxNodes
+  pub inside : RowIn nodes at
   pub stands : testStandsBy nodes left at l
   pub tree : testAt offsetOf left nodes at ≡ testOf nodes left at l
   pub fields : fieldsOfTest Near (testOf nodes left at l)

@@ -9,7 +9,7 @@ use Rattle.language.specs.Text.Trees.{Payoff}
 use Rattle.nodes.specs.Found.{amountAt, offsetOf, payoffAt, payoffBy, testAt}
 use Rattle.nodes.specs.Letters.{payoffLetter}
 use Rattle.nodes.specs.Stands.{AmountStands, Forward, PayoffStands, TestStands, payoffAsks}
-use Rattle.nodes.specs.Table.{linkAt, natOf, slotAt}
+use Rattle.nodes.specs.Table.{RowIn, linkAt, natOf, slotAt}
 use Rattle.nodes.specs.declared.PayoffLetter.{PayoffLetter}
 use Rattle.worths.specs.Ranges.{FieldsIn}
 
@@ -35,7 +35,7 @@ payoffStandsBy nodes left at l =
 
 pub record PayoffNode (nodes : List ℤ) (left at : ℕ) (l : PayoffLetter) : Type 0 where
   pub some : 0 < left
-  pub inside : at < maxNodes
+  pub inside : RowIn nodes at
   pub stands : payoffStandsBy nodes left at l
   pub tree : payoffAt natOf offsetOf left nodes at ≡ payoffOf nodes left at l
   pub range : FieldsIn (payoffOf nodes left at l)
@@ -48,7 +48,7 @@ unfolding PayoffStands payoffAt
 at-payoff nodes zero at h g = absurd h
 at-payoff nodes (suc left) at h g = record { some = omega arith; inside = h .0; stands = rw (less-one left) (h .1); tree = rw (less-one left); range = rw (less-one left) g }
 
-pub payoff-inside : (nodes : List ℤ) (left at : ℕ) → PayoffStands left nodes at → at < maxNodes
+pub payoff-inside : (nodes : List ℤ) (left at : ℕ) → PayoffStands left nodes at → RowIn nodes at
 unfolding PayoffStands
 payoff-inside nodes zero at h = absurd h
 payoff-inside nodes (suc left) at h = h .0

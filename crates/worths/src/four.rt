@@ -12,7 +12,7 @@ ghost use Rattle.integers.specs.Equal.{eqZ};
 ghost use Rattle.language.specs.Answer.{got};
 ghost use Rattle.language.specs.Limits.{maxAmount};
 ghost use Rattle.language.specs.Payoff.Evaluate.{inRange};
-ghost use Rattle.nodes.specs.Table.{natOf, slotAt};
+ghost use Rattle.nodes.specs.Table.{RowIn, natOf, slotAt};
 ghost use Rattle.tables.specs.Lookup.{standing};
 ghost use Rattle.tables.specs.declared.lookup.Place.the-variants.{At};
 ghost use Rattle.worths.specs.Answers.{dividedBy, notAnswer, valuedAnswer};
@@ -85,9 +85,9 @@ fn gathered(x: Valued, y: Valued, z: Valued, u: Valued) -> FourValues
 
 // ---- rows
 
-pub fn number(nodes: &[i64; 2560], at: usize) -> FourValues
-    requires { ⌜ (at < 512) × (natAbs (slotAt (now nodes) at 1) ≤ maxAmount) ⌝ }
-    ensures { λ r. ⌜ SureFour r (λ k. inRange maxAmount (slotAt (now (nodes .entry)) at 1)) ⌝ }
+pub fn number(nodes: &&[i64], at: usize) -> FourValues
+    requires { ⌜ RowIn (now (now nodes)) at × (natAbs (slotAt (now (now nodes)) at 1) ≤ maxAmount) ⌝ }
+    ensures { λ r. ⌜ SureFour r (λ k. inRange maxAmount (slotAt (now (now (nodes .entry))) at 1)) ⌝ }
 {
     FourValues {
         four: four_rows::number(nodes, at),
@@ -113,27 +113,27 @@ fn values_at(values: &[i64], i: usize) -> FourValues
 
 // The value of an `O`: sure where all four months are in the table.
 pub fn reading(
-    nodes: &[i64; 2560],
-    values: &[i64],
-    bounds: &[i64],
+    nodes: &&[i64],
+    values: &&[i64],
+    bounds: &&[i64],
     span: Span,
     waited: Month,
     at: usize,
 ) -> FourValues
-    requires { ⌜ (at < 512) × Readable (span .h) (span .f) (now bounds) (now values) × FourWaited (waited .0) × Near (slotAt (now nodes) at 2) ⌝ }
-    ensures { λ r. ⌜ SureFour r (λ k. readingIn (span .h) (span .f) (now (bounds .entry)) (now (values .entry)) (natOf (slotAt (now (nodes .entry)) at 1)) (pos (natOf (waited .0) + k) +ℤ slotAt (now (nodes .entry)) at 2)) ⌝ }
+    requires { ⌜ RowIn (now (now nodes)) at × Readable (span .h) (span .f) (now (now bounds)) (now (now values)) × FourWaited (waited .0) × Near (slotAt (now (now nodes)) at 2) ⌝ }
+    ensures { λ r. ⌜ SureFour r (λ k. readingIn (span .h) (span .f) (now (now (bounds .entry))) (now (now (values .entry))) (natOf (slotAt (now (now (nodes .entry))) at 1)) (pos (natOf (waited .0) + k) +ℤ slotAt (now (now (nodes .entry))) at 2)) ⌝ }
 {
     let first = integers::later(waited, rows::month_at(nodes, at, 2));
-    let place = lookup::four_places(bounds, span, rows::label(nodes, at), first);
+    let place = lookup::four_places(*bounds, span, rows::label(nodes, at), first);
     match place {
-        Place::At(i) => values_at(values, i),
+        Place::At(i) => values_at(*values, i),
         Place::Nowhere => unsure(),
     }
 }
 
-pub fn over(nodes: &[i64; 2560], at: usize, x: FourValues) -> FourValues
-    requires { ⌜ (at < 512) × Divides (natOf (slotAt (now nodes) at 1)) × SmallFour x ⌝ }
-    ensures { λ r. ⌜ From (dividedBy (natOf (slotAt (now (nodes .entry)) at 1))) x r ⌝ }
+pub fn over(nodes: &&[i64], at: usize, x: FourValues) -> FourValues
+    requires { ⌜ RowIn (now (now nodes)) at × Divides (natOf (slotAt (now (now nodes)) at 1)) × SmallFour x ⌝ }
+    ensures { λ r. ⌜ From (dividedBy (natOf (slotAt (now (now (nodes .entry))) at 1))) x r ⌝ }
 {
     FourValues {
         four: four_rows::over(nodes, at, x.four),

@@ -19,16 +19,16 @@ use tables::Span;
 
 // An `N` or an `O`; of any other letter nothing is said. Both here, so that `operands` is small.
 fn leaves(
-    nodes: &[i64; 2560],
-    values: &[i64],
-    bounds: &[i64],
+    nodes: &&[i64],
+    values: &&[i64],
+    bounds: &&[i64],
     span: Span,
     waited: Month,
     at: usize,
     left: usize,
 ) -> FourValues
-    requires { ⌜ Readable (span .h) (span .f) (now bounds) (now values) × FourWaited (waited .0) × AmountStands left (now nodes) at × fieldsOfAmount Near (amountAt offsetOf left (now nodes) at) ⌝ }
-    ensures { λ r. ⌜ SureFour r (λ k. valueIn (span .h) (span .f) (now (bounds .entry)) (now (values .entry)) (amountAt offsetOf left (now (nodes .entry)) at) (natOf (waited .0) + k)) ⌝ }
+    requires { ⌜ Readable (span .h) (span .f) (now (now bounds)) (now (now values)) × FourWaited (waited .0) × AmountStands left (now (now nodes)) at × fieldsOfAmount Near (amountAt offsetOf left (now (now nodes)) at) ⌝ }
+    ensures { λ r. ⌜ SureFour r (λ k. valueIn (span .h) (span .f) (now (now (bounds .entry))) (now (now (values .entry))) (amountAt offsetOf left (now (now (nodes .entry))) at) (natOf (waited .0) + k)) ⌝ }
 {
     let x = nodes::slot(nodes, at, 0);
     match x {
@@ -40,16 +40,16 @@ fn leaves(
 
 // The amount at a node: a number or an index without a call. Small, so that the compiler puts it in each of its places.
 pub fn operands(
-    nodes: &[i64; 2560],
-    values: &[i64],
-    bounds: &[i64],
+    nodes: &&[i64],
+    values: &&[i64],
+    bounds: &&[i64],
     span: Span,
     waited: Month,
     at: usize,
     left: usize,
 ) -> FourValues
-    requires { ⌜ Readable (span .h) (span .f) (now bounds) (now values) × FourWaited (waited .0) × AmountStands left (now nodes) at × fieldsOfAmount Near (amountAt offsetOf left (now nodes) at) ⌝ }
-    ensures { λ r. ⌜ SureFour r (λ k. valueIn (span .h) (span .f) (now (bounds .entry)) (now (values .entry)) (amountAt offsetOf left (now (nodes .entry)) at) (natOf (waited .0) + k)) ⌝ }
+    requires { ⌜ Readable (span .h) (span .f) (now (now bounds)) (now (now values)) × FourWaited (waited .0) × AmountStands left (now (now nodes)) at × fieldsOfAmount Near (amountAt offsetOf left (now (now nodes)) at) ⌝ }
+    ensures { λ r. ⌜ SureFour r (λ k. valueIn (span .h) (span .f) (now (now (bounds .entry))) (now (now (values .entry))) (amountAt offsetOf left (now (now (nodes .entry))) at) (natOf (waited .0) + k)) ⌝ }
 {
     let x = nodes::slot(nodes, at, 0);
     match x {
@@ -60,16 +60,16 @@ pub fn operands(
 
 // The amount at a node of any letter; of an `I` both branches.
 pub fn amounts(
-    nodes: &[i64; 2560],
-    values: &[i64],
-    bounds: &[i64],
+    nodes: &&[i64],
+    values: &&[i64],
+    bounds: &&[i64],
     span: Span,
     waited: Month,
     at: usize,
     left: usize,
 ) -> FourValues
-    requires { ⌜ Readable (span .h) (span .f) (now bounds) (now values) × FourWaited (waited .0) × AmountStands left (now nodes) at × fieldsOfAmount Near (amountAt offsetOf left (now nodes) at) ⌝ }
-    ensures { λ r. ⌜ SureFour r (λ k. valueIn (span .h) (span .f) (now (bounds .entry)) (now (values .entry)) (amountAt offsetOf left (now (nodes .entry)) at) (natOf (waited .0) + k)) ⌝ }
+    requires { ⌜ Readable (span .h) (span .f) (now (now bounds)) (now (now values)) × FourWaited (waited .0) × AmountStands left (now (now nodes)) at × fieldsOfAmount Near (amountAt offsetOf left (now (now nodes)) at) ⌝ }
+    ensures { λ r. ⌜ SureFour r (λ k. valueIn (span .h) (span .f) (now (now (bounds .entry))) (now (now (values .entry))) (amountAt offsetOf left (now (now (nodes .entry))) at) (natOf (waited .0) + k)) ⌝ }
 {
     let letter = nodes::amount_letter(nodes::slot(nodes, at, 0));
     match letter {
@@ -146,16 +146,16 @@ pub fn amounts(
 
 // Whether the test at a node holds. `Y` and `V` try both sides.
 pub fn tests(
-    nodes: &[i64; 2560],
-    values: &[i64],
-    bounds: &[i64],
+    nodes: &&[i64],
+    values: &&[i64],
+    bounds: &&[i64],
     span: Span,
     waited: Month,
     at: usize,
     left: usize,
 ) -> FourTests
-    requires { ⌜ Readable (span .h) (span .f) (now bounds) (now values) × FourWaited (waited .0) × TestStands left (now nodes) at × fieldsOfTest Near (testAt offsetOf left (now nodes) at) ⌝ }
-    ensures { λ r. ⌜ SureTests r (λ k. testIn (span .h) (span .f) (now (bounds .entry)) (now (values .entry)) (testAt offsetOf left (now (nodes .entry)) at) (natOf (waited .0) + k)) ⌝ }
+    requires { ⌜ Readable (span .h) (span .f) (now (now bounds)) (now (now values)) × FourWaited (waited .0) × TestStands left (now (now nodes)) at × fieldsOfTest Near (testAt offsetOf left (now (now nodes)) at) ⌝ }
+    ensures { λ r. ⌜ SureTests r (λ k. testIn (span .h) (span .f) (now (now (bounds .entry))) (now (now (values .entry))) (testAt offsetOf left (now (now (nodes .entry))) at) (natOf (waited .0) + k)) ⌝ }
 {
     let letter = nodes::test_letter(nodes::slot(nodes, at, 0));
     match letter {

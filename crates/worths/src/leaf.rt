@@ -6,7 +6,7 @@ ghost use lib.IntN.{_+ℤ_, natAbs, pos};
 ghost use lib.ListN.{getD, length};
 ghost use lib.Signed.{ltZ, nonNeg};
 ghost use Rattle.language.specs.Calls.{signOf};
-ghost use Rattle.nodes.specs.Table.{natOf, slotAt};
+ghost use Rattle.nodes.specs.Table.{RowIn, natOf, slotAt};
 ghost use Rattle.pays.specs.Parties.{PairIn};
 ghost use Rattle.worths.specs.Answers.{worthAnswer};
 ghost use Rattle.worths.specs.Leaf.{leafIn};
@@ -21,9 +21,9 @@ use tables::Span;
 use text::Refusal;
 
 // One penny from the leaf's first party to its second, as the pair counts it.
-pub fn penny(nodes: &[i64; 2560], at: usize, pair: Pair) -> Pence
-    requires { ⌜ (at < 512) × PairIn (pair .p) (pair .q) ⌝ }
-    ensures { λ r. ⌜ r .0 ≡ signOf (pair .p) (pair .q) (natOf (slotAt (now (nodes .entry)) at 3)) (natOf (slotAt (now (nodes .entry)) at 4)) ⌝ }
+pub fn penny(nodes: &&[i64], at: usize, pair: Pair) -> Pence
+    requires { ⌜ RowIn (now (now nodes)) at × PairIn (pair .p) (pair .q) ⌝ }
+    ensures { λ r. ⌜ r .0 ≡ signOf (pair .p) (pair .q) (natOf (slotAt (now (now (nodes .entry))) at 3)) (natOf (slotAt (now (now (nodes .entry))) at 4)) ⌝ }
 {
     let a = nodes::slot(nodes, at, 3);
     let b = nodes::slot(nodes, at, 4);
@@ -56,7 +56,7 @@ pub fn earlier(m: Month, n: Month) -> bool
 
 // A month outside 0 to f is 11, also where the leaf is worth 0; before month `start` the leaf is worth 0.
 pub fn leaf_worth(
-    nodes: &[i64; 2560],
+    nodes: &&[i64],
     factors: &[i64],
     span: Span,
     waited: Month,
@@ -64,9 +64,9 @@ pub fn leaf_worth(
     pair: Pair,
     at: usize,
 ) -> Worth
-    requires { ⌜ (at < 512) × Payable (span .f) (now factors) × Waited (waited .0) × PairIn (pair .p) (pair .q) × Near (slotAt (now nodes) at 1) ⌝ }
-    ensures { λ r. ⌜ worthAnswer r ≡ leafIn (span .f) (now (factors .entry)) (start .0) (slotAt (now (nodes .entry)) at 1 +ℤ pos (natOf (waited .0)))
-        (signOf (pair .p) (pair .q) (natOf (slotAt (now (nodes .entry)) at 3)) (natOf (slotAt (now (nodes .entry)) at 4))) ⌝ }
+    requires { ⌜ RowIn (now (now nodes)) at × Payable (span .f) (now factors) × Waited (waited .0) × PairIn (pair .p) (pair .q) × Near (slotAt (now (now nodes)) at 1) ⌝ }
+    ensures { λ r. ⌜ worthAnswer r ≡ leafIn (span .f) (now (factors .entry)) (start .0) (slotAt (now (now (nodes .entry))) at 1 +ℤ pos (natOf (waited .0)))
+        (signOf (pair .p) (pair .q) (natOf (slotAt (now (now (nodes .entry))) at 3)) (natOf (slotAt (now (now (nodes .entry))) at 4))) ⌝ }
 {
     let month = integers::later(rows::month_at(nodes, at, 1), waited);
     if tables::month_ok(span.f, month.0) {

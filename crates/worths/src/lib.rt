@@ -27,16 +27,16 @@ pub mod wait;
 
 // The amount at a node, with some months waited: a number or an index without a call.
 pub fn checked_operand(
-    nodes: &[i64; 2560],
-    values: &[i64],
-    bounds: &[i64],
+    nodes: &&[i64],
+    values: &&[i64],
+    bounds: &&[i64],
     span: Span,
     waited: Month,
     at: usize,
     left: usize,
 ) -> Valued
-    requires { ⌜ Readable (span .h) (span .f) (now bounds) (now values) × Waited (waited .0) × AmountStands left (now nodes) at × fieldsOfAmount Near (amountAt offsetOf left (now nodes) at) ⌝ }
-    ensures { λ r. ⌜ valuedAnswer r ≡ valueIn (span .h) (span .f) (now (bounds .entry)) (now (values .entry)) (amountAt offsetOf left (now (nodes .entry)) at) (natOf (waited .0)) ⌝ }
+    requires { ⌜ Readable (span .h) (span .f) (now (now bounds)) (now (now values)) × Waited (waited .0) × AmountStands left (now (now nodes)) at × fieldsOfAmount Near (amountAt offsetOf left (now (now nodes)) at) ⌝ }
+    ensures { λ r. ⌜ valuedAnswer r ≡ valueIn (span .h) (span .f) (now (now (bounds .entry))) (now (now (values .entry))) (amountAt offsetOf left (now (now (nodes .entry))) at) (natOf (waited .0)) ⌝ }
 {
     let x = nodes::slot(nodes, at, 0);
     match x {
@@ -48,32 +48,32 @@ pub fn checked_operand(
 
 // The amount at a node of any letter, as one number: what the calls of the walk hand back.
 pub fn checked_value(
-    nodes: &[i64; 2560],
-    values: &[i64],
-    bounds: &[i64],
+    nodes: &&[i64],
+    values: &&[i64],
+    bounds: &&[i64],
     span: Span,
     waited: Month,
     at: usize,
     left: usize,
 ) -> i64
-    requires { ⌜ Readable (span .h) (span .f) (now bounds) (now values) × Waited (waited .0) × AmountStands left (now nodes) at × fieldsOfAmount Near (amountAt offsetOf left (now nodes) at) ⌝ }
-    ensures { λ r. ⌜ valuedIn r ≡ valueIn (span .h) (span .f) (now (bounds .entry)) (now (values .entry)) (amountAt offsetOf left (now (nodes .entry)) at) (natOf (waited .0)) ⌝ }
+    requires { ⌜ Readable (span .h) (span .f) (now (now bounds)) (now (now values)) × Waited (waited .0) × AmountStands left (now (now nodes)) at × fieldsOfAmount Near (amountAt offsetOf left (now (now nodes)) at) ⌝ }
+    ensures { λ r. ⌜ valuedIn r ≡ valueIn (span .h) (span .f) (now (now (bounds .entry))) (now (now (values .entry))) (amountAt offsetOf left (now (now (nodes .entry))) at) (natOf (waited .0)) ⌝ }
 {
     coded::code(amount_here(nodes, values, bounds, span, waited, at, left))
 }
 
 // The same; of an `I` only the chosen branch.
 fn amount_here(
-    nodes: &[i64; 2560],
-    values: &[i64],
-    bounds: &[i64],
+    nodes: &&[i64],
+    values: &&[i64],
+    bounds: &&[i64],
     span: Span,
     waited: Month,
     at: usize,
     left: usize,
 ) -> Valued
-    requires { ⌜ Readable (span .h) (span .f) (now bounds) (now values) × Waited (waited .0) × AmountStands left (now nodes) at × fieldsOfAmount Near (amountAt offsetOf left (now nodes) at) ⌝ }
-    ensures { λ r. ⌜ valuedAnswer r ≡ valueIn (span .h) (span .f) (now (bounds .entry)) (now (values .entry)) (amountAt offsetOf left (now (nodes .entry)) at) (natOf (waited .0)) ⌝ }
+    requires { ⌜ Readable (span .h) (span .f) (now (now bounds)) (now (now values)) × Waited (waited .0) × AmountStands left (now (now nodes)) at × fieldsOfAmount Near (amountAt offsetOf left (now (now nodes)) at) ⌝ }
+    ensures { λ r. ⌜ valuedAnswer r ≡ valueIn (span .h) (span .f) (now (now (bounds .entry))) (now (now (values .entry))) (amountAt offsetOf left (now (now (nodes .entry))) at) (natOf (waited .0)) ⌝ }
 {
     let letter = nodes::amount_letter(nodes::slot(nodes, at, 0));
     match letter {
@@ -152,16 +152,16 @@ fn amount_here(
 
 // Whether the test at a node holds, with some months waited. `Y` and `V` try both sides.
 pub fn checked_holds(
-    nodes: &[i64; 2560],
-    values: &[i64],
-    bounds: &[i64],
+    nodes: &&[i64],
+    values: &&[i64],
+    bounds: &&[i64],
     span: Span,
     waited: Month,
     at: usize,
     left: usize,
 ) -> Tested
-    requires { ⌜ Readable (span .h) (span .f) (now bounds) (now values) × Waited (waited .0) × TestStands left (now nodes) at × fieldsOfTest Near (testAt offsetOf left (now nodes) at) ⌝ }
-    ensures { λ r. ⌜ testedAnswer r ≡ testIn (span .h) (span .f) (now (bounds .entry)) (now (values .entry)) (testAt offsetOf left (now (nodes .entry)) at) (natOf (waited .0)) ⌝ }
+    requires { ⌜ Readable (span .h) (span .f) (now (now bounds)) (now (now values)) × Waited (waited .0) × TestStands left (now (now nodes)) at × fieldsOfTest Near (testAt offsetOf left (now (now nodes)) at) ⌝ }
+    ensures { λ r. ⌜ testedAnswer r ≡ testIn (span .h) (span .f) (now (now (bounds .entry))) (now (now (values .entry))) (testAt offsetOf left (now (now (nodes .entry))) at) (natOf (waited .0)) ⌝ }
 {
     let letter = nodes::test_letter(nodes::slot(nodes, at, 0));
     match letter {

@@ -25,10 +25,10 @@ use tables::Span;
 
 // The payoff at a node, with some months waited. A leaf that is not cut counts from month 0 on, a cut one from month `start` on.
 pub fn payoff_worth(
-    nodes: &[i64; 2560],
+    nodes: &&[i64],
     factors: &[i64],
-    values: &[i64],
-    bounds: &[i64],
+    values: &&[i64],
+    bounds: &&[i64],
     span: Span,
     waited: Month,
     start: Month,
@@ -36,10 +36,10 @@ pub fn payoff_worth(
     at: usize,
     left: usize,
 ) -> Worth
-    requires { ⌜ Readable (span .h) (span .f) (now bounds) (now values) × Payable (span .f) (now factors) × WaitedAt left (waited .0) × T (nonNeg (start .0)) × PairIn (pair .p) (pair .q)
-        × PayoffStands left (now nodes) at × FieldsIn (payoffAt natOf offsetOf left (now nodes) at) ⌝ }
-    ensures { λ r. ⌜ worthAnswer r ≡ worthIn (tableOf (span .h) (span .f) (now (factors .entry)) (now (bounds .entry)) (now (values .entry))) (pair .p) (pair .q) (natOf (start .0))
-        (payoffAt natOf offsetOf left (now (nodes .entry)) at) (natOf (waited .0)) ⌝ }
+    requires { ⌜ Readable (span .h) (span .f) (now (now bounds)) (now (now values)) × Payable (span .f) (now factors) × WaitedAt left (waited .0) × T (nonNeg (start .0)) × PairIn (pair .p) (pair .q)
+        × PayoffStands left (now (now nodes)) at × FieldsIn (payoffAt natOf offsetOf left (now (now nodes)) at) ⌝ }
+    ensures { λ r. ⌜ worthAnswer r ≡ worthIn (tableOf (span .h) (span .f) (now (factors .entry)) (now (now (bounds .entry))) (now (now (values .entry)))) (pair .p) (pair .q) (natOf (start .0))
+        (payoffAt natOf offsetOf left (now (now (nodes .entry))) at) (natOf (waited .0)) ⌝ }
 {
     let letter = rows::letter(nodes, at);
     match letter {

@@ -9,7 +9,7 @@ ghost use Rattle.language.specs.Limits.{maxAmount};
 ghost use Rattle.language.specs.Payoff.Evaluate.{inRange};
 ghost use Rattle.language.specs.Rules.Table.{readable, valueAt};
 ghost use Rattle.nodes.specs.Letters.{payoffLetter};
-ghost use Rattle.nodes.specs.Table.{natOf, slotAt};
+ghost use Rattle.nodes.specs.Table.{RowIn, natOf, slotAt};
 ghost use Rattle.tables.specs.Lookup.{readTable};
 ghost use Rattle.worths.specs.Answers.{SmallValued, dividedBy, valuedAnswer};
 ghost use Rattle.worths.specs.Ranges.{Near, Readable, Waited};
@@ -22,25 +22,25 @@ use tables::Span;
 use tables::lookup;
 use tables::lookup::Found;
 
-pub fn letter(nodes: &[i64; 2560], at: usize) -> PayoffLetter
-    requires { ⌜ at < 512 ⌝ }
-    ensures { λ r. ⌜ r ≡ payoffLetter (slotAt (now (nodes .entry)) at 0) ⌝ }
+pub fn letter(nodes: &&[i64], at: usize) -> PayoffLetter
+    requires { ⌜ RowIn (now (now nodes)) at ⌝ }
+    ensures { λ r. ⌜ r ≡ payoffLetter (slotAt (now (now (nodes .entry))) at 0) ⌝ }
 {
     nodes::payoff_letter(nodes::slot(nodes, at, 0))
 }
 
 // The month that stands in a row's number k.
-pub fn month_at(nodes: &[i64; 2560], at: usize, k: usize) -> Month
-    requires { ⌜ (at < 512) × (k < 5) ⌝ }
-    ensures { λ r. ⌜ r .0 ≡ slotAt (now (nodes .entry)) at k ⌝ }
+pub fn month_at(nodes: &&[i64], at: usize, k: usize) -> Month
+    requires { ⌜ RowIn (now (now nodes)) at × (k < 5) ⌝ }
+    ensures { λ r. ⌜ r .0 ≡ slotAt (now (now (nodes .entry))) at k ⌝ }
 {
     Month(nodes::slot(nodes, at, k))
 }
 
 // A label below zero counts as label 0.
-pub fn label(nodes: &[i64; 2560], at: usize) -> usize
-    requires { ⌜ at < 512 ⌝ }
-    ensures { λ r. ⌜ r ≡ natOf (slotAt (now (nodes .entry)) at 1) ⌝ }
+pub fn label(nodes: &&[i64], at: usize) -> usize
+    requires { ⌜ RowIn (now (now nodes)) at ⌝ }
+    ensures { λ r. ⌜ r ≡ natOf (slotAt (now (now (nodes .entry))) at 1) ⌝ }
 {
     let x = nodes::slot(nodes, at, 1);
     if x < 0 {
@@ -50,30 +50,30 @@ pub fn label(nodes: &[i64; 2560], at: usize) -> usize
 }
 
 // The number of an `N`.
-pub fn number(nodes: &[i64; 2560], at: usize) -> Valued
-    requires { ⌜ (at < 512) × (natAbs (slotAt (now nodes) at 1) ≤ maxAmount) ⌝ }
-    ensures { λ r. ⌜ valuedAnswer r ≡ inRange maxAmount (slotAt (now (nodes .entry)) at 1) ⌝ }
+pub fn number(nodes: &&[i64], at: usize) -> Valued
+    requires { ⌜ RowIn (now (now nodes)) at × (natAbs (slotAt (now (now nodes)) at 1) ≤ maxAmount) ⌝ }
+    ensures { λ r. ⌜ valuedAnswer r ≡ inRange maxAmount (slotAt (now (now (nodes .entry))) at 1) ⌝ }
 {
     Valued::Value(amounts::rows::number(nodes, at))
 }
 
 // The value of an `O`, with some months waited, or 11.
 pub fn reading(
-    nodes: &[i64; 2560],
-    values: &[i64],
-    bounds: &[i64],
+    nodes: &&[i64],
+    values: &&[i64],
+    bounds: &&[i64],
     span: Span,
     waited: Month,
     at: usize,
 ) -> Valued
-    requires { ⌜ (at < 512) × Readable (span .h) (span .f) (now bounds) (now values) × Waited (waited .0) × Near (slotAt (now nodes) at 2) ⌝ }
+    requires { ⌜ RowIn (now (now nodes)) at × Readable (span .h) (span .f) (now (now bounds)) (now (now values)) × Waited (waited .0) × Near (slotAt (now (now nodes)) at 2) ⌝ }
     ensures { λ r. ⌜ valuedAnswer r ≡ cond
-        (readable (readTable (span .h) (span .f) (now (bounds .entry)) (now (values .entry))) (natOf (slotAt (now (nodes .entry)) at 1)) (pos (natOf (waited .0)) +ℤ slotAt (now (nodes .entry)) at 2))
-        (inRange maxAmount (valueAt (readTable (span .h) (span .f) (now (bounds .entry)) (now (values .entry))) (natOf (slotAt (now (nodes .entry)) at 1)) (pos (natOf (waited .0)) +ℤ slotAt (now (nodes .entry)) at 2)))
+        (readable (readTable (span .h) (span .f) (now (now (bounds .entry))) (now (now (values .entry)))) (natOf (slotAt (now (now (nodes .entry))) at 1)) (pos (natOf (waited .0)) +ℤ slotAt (now (now (nodes .entry))) at 2))
+        (inRange maxAmount (valueAt (readTable (span .h) (span .f) (now (now (bounds .entry))) (now (now (values .entry)))) (natOf (slotAt (now (now (nodes .entry))) at 1)) (pos (natOf (waited .0)) +ℤ slotAt (now (now (nodes .entry))) at 2)))
         (refused 11) ⌝ }
 {
     let month = integers::later(waited, month_at(nodes, at, 2));
-    let found = lookup::labelled(values, bounds, span, label(nodes, at), month);
+    let found = lookup::labelled(*values, *bounds, span, label(nodes, at), month);
     match found {
         Found::Value(p) => Valued::Value(p),
         Found::Outside => Valued::Refused(Fault::Unread),
@@ -81,9 +81,9 @@ pub fn reading(
 }
 
 // An amount divided by the number of a `Q`: no further from zero than the amount.
-pub fn over(nodes: &[i64; 2560], at: usize, x: Valued) -> Valued
-    requires { ⌜ (at < 512) × Divides (natOf (slotAt (now nodes) at 1)) × SmallValued x ⌝ }
-    ensures { λ r. ⌜ valuedAnswer r ≡ dividedBy (natOf (slotAt (now (nodes .entry)) at 1)) (valuedAnswer x) ⌝ }
+pub fn over(nodes: &&[i64], at: usize, x: Valued) -> Valued
+    requires { ⌜ RowIn (now (now nodes)) at × Divides (natOf (slotAt (now (now nodes)) at 1)) × SmallValued x ⌝ }
+    ensures { λ r. ⌜ valuedAnswer r ≡ dividedBy (natOf (slotAt (now (now (nodes .entry))) at 1)) (valuedAnswer x) ⌝ }
 {
     match x {
         Valued::Value(p) => Valued::Value(amounts::rows::over(nodes, at, p)),

@@ -23,17 +23,17 @@ pub enum Wait {
 
 // The test at a node, tried with `first` months waited and each of the next d, one by one.
 fn wait_singly(
-    nodes: &[i64; 2560],
-    values: &[i64],
-    bounds: &[i64],
+    nodes: &&[i64],
+    values: &&[i64],
+    bounds: &&[i64],
     span: Span,
     first: Month,
     d: Month,
     at: usize,
     left: usize,
 ) -> Wait
-    requires { ⌜ Readable (span .h) (span .f) (now bounds) (now values) × WaitsIn (first .0) (d .0) × TestStands left (now nodes) at × fieldsOfTest Near (testAt offsetOf left (now nodes) at) ⌝ }
-    ensures is { λ r. ⌜ waitAnswer r ≡ checkedTried (testIn (span .h) (span .f) (now (bounds .entry)) (now (values .entry)) (testAt offsetOf left (now (nodes .entry)) at)) (natOf (d .0)) (natOf (first .0)) ⌝ }
+    requires { ⌜ Readable (span .h) (span .f) (now (now bounds)) (now (now values)) × WaitsIn (first .0) (d .0) × TestStands left (now (now nodes)) at × fieldsOfTest Near (testAt offsetOf left (now (now nodes)) at) ⌝ }
+    ensures is { λ r. ⌜ waitAnswer r ≡ checkedTried (testIn (span .h) (span .f) (now (now (bounds .entry))) (now (now (values .entry))) (testAt offsetOf left (now (now (nodes .entry))) at)) (natOf (d .0)) (natOf (first .0)) ⌝ }
     ensures known { λ r. ⌜ WaitKnown r ⌝ }
 {
     let last = integers::later(first, d);
@@ -60,17 +60,17 @@ fn wait_singly(
 
 // The same, four at a time while all four come without a refusal, the others one by one.
 pub fn wait_for(
-    nodes: &[i64; 2560],
-    values: &[i64],
-    bounds: &[i64],
+    nodes: &&[i64],
+    values: &&[i64],
+    bounds: &&[i64],
     span: Span,
     first: Month,
     d: Month,
     at: usize,
     left: usize,
 ) -> Wait
-    requires { ⌜ Readable (span .h) (span .f) (now bounds) (now values) × WaitsIn (first .0) (d .0) × TestStands left (now nodes) at × fieldsOfTest Near (testAt offsetOf left (now nodes) at) ⌝ }
-    ensures is { λ r. ⌜ waitAnswer r ≡ checkedTried (testIn (span .h) (span .f) (now (bounds .entry)) (now (values .entry)) (testAt offsetOf left (now (nodes .entry)) at)) (natOf (d .0)) (natOf (first .0)) ⌝ }
+    requires { ⌜ Readable (span .h) (span .f) (now (now bounds)) (now (now values)) × WaitsIn (first .0) (d .0) × TestStands left (now (now nodes)) at × fieldsOfTest Near (testAt offsetOf left (now (now nodes)) at) ⌝ }
+    ensures is { λ r. ⌜ waitAnswer r ≡ checkedTried (testIn (span .h) (span .f) (now (now (bounds .entry))) (now (now (values .entry))) (testAt offsetOf left (now (now (nodes .entry))) at)) (natOf (d .0)) (natOf (first .0)) ⌝ }
     ensures known { λ r. ⌜ WaitKnown r ⌝ }
 {
     let last = integers::later(first, d);

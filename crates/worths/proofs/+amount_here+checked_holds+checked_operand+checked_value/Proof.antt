@@ -50,60 +50,60 @@ use Rattle.worths.proofs.rows.number.Reads as number-reads
 use Rattle.worths.proofs.rows.over.Reads as over-reads
 use Rattle.worths.proofs.rows.reading.Reads as reading-reads
 
-abbrev μ-amount-here : Measures 3 amount-here-kinds.ps ℕ
+abbrev μ-amount-here : Measures 6 amount-here-kinds.ps ℕ
 μ-amount-here κs a = 3 * a .1 .1 .1 .1 .1 .1 .0
 
-abbrev μ-checked-holds : Measures 3 checked-holds-kinds.ps ℕ
+abbrev μ-checked-holds : Measures 6 checked-holds-kinds.ps ℕ
 μ-checked-holds κs a = 3 * a .1 .1 .1 .1 .1 .1 .0
 
-abbrev μ-checked-operand : Measures 3 checked-operand-kinds.ps ℕ
+abbrev μ-checked-operand : Measures 6 checked-operand-kinds.ps ℕ
 μ-checked-operand κs a = 3 * a .1 .1 .1 .1 .1 .1 .0 + 2
 
-abbrev μ-checked-value : Measures 3 checked-value-kinds.ps ℕ
+abbrev μ-checked-value : Measures 6 checked-value-kinds.ps ℕ
 μ-checked-value κs a = 3 * a .1 .1 .1 .1 .1 .1 .0 + 1
 
-abbrev amount-here-at : ℕ → In 3 amount-here-kinds.ps
-amount-here-at t = and 3 amount-here-kinds.ps (is 3 amount-here-kinds.ps μ-amount-here t) amount-here.Pre
+abbrev amount-here-at : ℕ → In 6 amount-here-kinds.ps
+amount-here-at t = and 6 amount-here-kinds.ps (is 6 amount-here-kinds.ps μ-amount-here t) amount-here.Pre
 
-abbrev amount-here-below : ℕ → In 3 amount-here-kinds.ps
+abbrev amount-here-below : ℕ → In 6 amount-here-kinds.ps
 amount-here-below t = and
-    3
+    6
     amount-here-kinds.ps
-    (falls 3 amount-here-kinds.ps _<_ μ-amount-here t)
+    (falls 6 amount-here-kinds.ps _<_ μ-amount-here t)
     amount-here.Pre
 
-abbrev checked-holds-at : ℕ → In 3 checked-holds-kinds.ps
-checked-holds-at t = and 3 checked-holds-kinds.ps (is 3 checked-holds-kinds.ps μ-checked-holds t) checked-holds.Pre
+abbrev checked-holds-at : ℕ → In 6 checked-holds-kinds.ps
+checked-holds-at t = and 6 checked-holds-kinds.ps (is 6 checked-holds-kinds.ps μ-checked-holds t) checked-holds.Pre
 
-abbrev checked-holds-below : ℕ → In 3 checked-holds-kinds.ps
+abbrev checked-holds-below : ℕ → In 6 checked-holds-kinds.ps
 checked-holds-below t = and
-    3
+    6
     checked-holds-kinds.ps
-    (falls 3 checked-holds-kinds.ps _<_ μ-checked-holds t)
+    (falls 6 checked-holds-kinds.ps _<_ μ-checked-holds t)
     checked-holds.Pre
 
-abbrev checked-operand-at : ℕ → In 3 checked-operand-kinds.ps
+abbrev checked-operand-at : ℕ → In 6 checked-operand-kinds.ps
 checked-operand-at t = and
-    3
+    6
     checked-operand-kinds.ps
-    (is 3 checked-operand-kinds.ps μ-checked-operand t)
+    (is 6 checked-operand-kinds.ps μ-checked-operand t)
     checked-operand.Pre
 
-abbrev checked-operand-below : ℕ → In 3 checked-operand-kinds.ps
+abbrev checked-operand-below : ℕ → In 6 checked-operand-kinds.ps
 checked-operand-below t = and
-    3
+    6
     checked-operand-kinds.ps
-    (falls 3 checked-operand-kinds.ps _<_ μ-checked-operand t)
+    (falls 6 checked-operand-kinds.ps _<_ μ-checked-operand t)
     checked-operand.Pre
 
-abbrev checked-value-at : ℕ → In 3 checked-value-kinds.ps
-checked-value-at t = and 3 checked-value-kinds.ps (is 3 checked-value-kinds.ps μ-checked-value t) checked-value.Pre
+abbrev checked-value-at : ℕ → In 6 checked-value-kinds.ps
+checked-value-at t = and 6 checked-value-kinds.ps (is 6 checked-value-kinds.ps μ-checked-value t) checked-value.Pre
 
-abbrev checked-value-below : ℕ → In 3 checked-value-kinds.ps
+abbrev checked-value-below : ℕ → In 6 checked-value-kinds.ps
 checked-value-below t = and
-    3
+    6
     checked-value-kinds.ps
-    (falls 3 checked-value-kinds.ps _<_ μ-checked-value t)
+    (falls 6 checked-value-kinds.ps _<_ μ-checked-value t)
     checked-value.Pre
 
 abbrev amount-here-calls : ℕ → amount-here-lts.Claims
@@ -111,7 +111,7 @@ amount-here-calls t = (slot-reads.Asked, slot-reads.Learnt, amount-letter-reads.
 
 -- what is known in the arm of letter l
 amount-here-here : (t : ℕ) (c : amount-here-lts.After-amount-letter (amount-here-calls t) (amount-here-at t) amount-here.Post) (l : AmountLetter) → c .amount-letter .result ≡ l
-    → AmountNode (c .before .before .args .nodes .now) (c .before .before .args .left) (c .before .before .args .at) l
+    → AmountNode (c .before .before .args .nodes .now .now) (c .before .before .args .left) (c .before .before .args .at) l
 amount-here-here t c l e =
     let f : SFits w64 (c .before .slot .result) = search needs in
     let p = c .before .before .pre .1 in
@@ -170,8 +170,8 @@ amount-here-checked-operand-requires-2 t c κs =
 amount-here-sum-of-requires : (t : ℕ) → amount-here-lts.Need-sum-of-requires (amount-here-calls t) (amount-here-at t) amount-here.Post
 amount-here-sum-of-requires t c κs =
     let s = c .before .before .before .before .before .before .before in (
-      valued-small (s .args .span .h) (s .args .span .f) (s .args .bounds .now) (s .args .values .now) _ _ (c .before .before .checked-operand .result) (c .before .before .checked-operand .ensures),
-      valued-small (s .args .span .h) (s .args .span .f) (s .args .bounds .now) (s .args .values .now) _ _ (c .checked-operand2 .result) (c .checked-operand2 .ensures),
+      valued-small (s .args .span .h) (s .args .span .f) (s .args .bounds .now .now) (s .args .values .now .now) _ _ (c .before .before .checked-operand .result) (c .before .before .checked-operand .ensures),
+      valued-small (s .args .span .h) (s .args .span .f) (s .args .bounds .now .now) (s .args .values .now .now) _ _ (c .checked-operand2 .result) (c .checked-operand2 .ensures),
     )
 
 amount-here-add-checked-operand-2 : (t : ℕ) → amount-here-lts.Need-add-checked-operand-2 (amount-here-calls t) (amount-here-at t) amount-here.Post
@@ -211,8 +211,8 @@ amount-here-checked-operand-requires-4 t c κs =
 amount-here-difference-of-requires : (t : ℕ) → amount-here-lts.Need-difference-of-requires (amount-here-calls t) (amount-here-at t) amount-here.Post
 amount-here-difference-of-requires t c κs =
     let s = c .before .before .before .before .before .before .before in (
-      valued-small (s .args .span .h) (s .args .span .f) (s .args .bounds .now) (s .args .values .now) _ _ (c .before .before .checked-operand3 .result) (c .before .before .checked-operand3 .ensures),
-      valued-small (s .args .span .h) (s .args .span .f) (s .args .bounds .now) (s .args .values .now) _ _ (c .checked-operand4 .result) (c .checked-operand4 .ensures),
+      valued-small (s .args .span .h) (s .args .span .f) (s .args .bounds .now .now) (s .args .values .now .now) _ _ (c .before .before .checked-operand3 .result) (c .before .before .checked-operand3 .ensures),
+      valued-small (s .args .span .h) (s .args .span .f) (s .args .bounds .now .now) (s .args .values .now .now) _ _ (c .checked-operand4 .result) (c .checked-operand4 .ensures),
     )
 
 amount-here-add-checked-operand-3 : (t : ℕ) → amount-here-lts.Need-add-checked-operand-3 (amount-here-calls t) (amount-here-at t) amount-here.Post
@@ -252,8 +252,8 @@ amount-here-checked-operand-requires-6 t c κs =
 amount-here-product-of-requires : (t : ℕ) → amount-here-lts.Need-product-of-requires (amount-here-calls t) (amount-here-at t) amount-here.Post
 amount-here-product-of-requires t c κs =
     let s = c .before .before .before .before .before .before .before in (
-      valued-small (s .args .span .h) (s .args .span .f) (s .args .bounds .now) (s .args .values .now) _ _ (c .before .before .checked-operand5 .result) (c .before .before .checked-operand5 .ensures),
-      valued-small (s .args .span .h) (s .args .span .f) (s .args .bounds .now) (s .args .values .now) _ _ (c .checked-operand6 .result) (c .checked-operand6 .ensures),
+      valued-small (s .args .span .h) (s .args .span .f) (s .args .bounds .now .now) (s .args .values .now .now) _ _ (c .before .before .checked-operand5 .result) (c .before .before .checked-operand5 .ensures),
+      valued-small (s .args .span .h) (s .args .span .f) (s .args .bounds .now .now) (s .args .values .now .now) _ _ (c .checked-operand6 .result) (c .checked-operand6 .ensures),
     )
 
 amount-here-add-checked-operand-4 : (t : ℕ) → amount-here-lts.Need-add-checked-operand-4 (amount-here-calls t) (amount-here-at t) amount-here.Post
@@ -278,7 +278,7 @@ unfolding fieldsOfAmount
 amount-here-over-requires t c κs =
     let s = c .before .before .before .before .before in
     let n = amount-here-here t (c .before .before .before) amount.Quotient (c .before .enum-told6 .given .1) in
-    (n .inside, record { some = n .fields .0; small = n .fields .1 }, valued-small (s .args .span .h) (s .args .span .f) (s .args .bounds .now) (s .args .values .now) _ _ (c .checked-operand7 .result) (c .checked-operand7 .ensures))
+    (n .inside, record { some = n .fields .0; small = n .fields .1 }, valued-small (s .args .span .h) (s .args .span .f) (s .args .bounds .now .now) (s .args .values .now .now) _ _ (c .checked-operand7 .result) (c .checked-operand7 .ensures))
 
 amount-here-add-checked-holds : (t : ℕ) → amount-here-lts.Need-add-checked-holds (amount-here-calls t) (amount-here-at t) amount-here.Post
 amount-here-add-checked-holds t c =
@@ -449,7 +449,7 @@ checked-holds-calls t = (slot-reads.Asked, slot-reads.Learnt, test-letter-reads.
 
 -- what is known in the arm of letter l
 checked-holds-here : (t : ℕ) (c : checked-holds-lts.After-test-letter (checked-holds-calls t) (checked-holds-at t) checked-holds.Post) (l : TestLetter) → c .test-letter .result ≡ l
-    → TestNode (c .before .before .args .nodes .now) (c .before .before .args .left) (c .before .before .args .at) l
+    → TestNode (c .before .before .args .nodes .now .now) (c .before .before .args .left) (c .before .before .args .at) l
 checked-holds-here t c l e =
     let f : SFits w64 (c .before .slot .result) = search needs in
     let p = c .before .before .pre .1 in
@@ -756,7 +756,7 @@ checked-value-amount-here-requires t c κs = (omega arith, c .pre .1)
 checked-value-code-requires : (t : ℕ) → checked-value-lts.Need-code-requires (checked-value-calls t) (checked-value-at t) checked-value.Post
 checked-value-code-requires t c κs =
     let a = c .before .args in
-    valued-small (a .span .h) (a .span .f) (a .bounds .now) (a .values .now) _ _ (c .amount-here .result) (c .amount-here .ensures)
+    valued-small (a .span .h) (a .span .f) (a .bounds .now .now) (a .values .now .now) _ _ (c .amount-here .result) (c .amount-here .ensures)
 
 checked-value-returns : (t : ℕ) → checked-value-lts.Need-returns (checked-value-calls t) (checked-value-at t) checked-value.Post
 checked-value-returns t c =

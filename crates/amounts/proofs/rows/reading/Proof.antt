@@ -25,17 +25,17 @@ cast-i c =
 
 value-at-requires : tie.Need-value-at-requires
 value-at-requires c κs =
-    let s = c .before .before .before in
-    let fm : SFits w64 (s .args .month .0) = search needs in
-    let fx : SFits w64 (c .before .before .slot .result) = search needs in
-    place-inside _ _ _ _ fm fx (c .before .before .slot .ensures) (s .pre .1) (s .pre .2)
-
-returns : tie.Need-returns
-returns c =
     let s = c .before .before .before .before in
     let fm : SFits w64 (s .args .month .0) = search needs in
     let fx : SFits w64 (c .before .before .before .slot .result) = search needs in
-    c .value-at .ensures ∙ place-gives _ _ _ _ fm fx (c .before .before .before .slot .ensures) (s .pre .1) (s .pre .2)
+    place-inside _ _ _ _ fm fx (c .before .before .before .slot .ensures) (s .pre .1) (s .pre .2)
+
+returns : tie.Need-returns
+returns c =
+    let s = c .before .before .before .before .before in
+    let fm : SFits w64 (s .args .month .0) = search needs in
+    let fx : SFits w64 (c .before .before .before .before .slot .result) = search needs in
+    c .value-at .ensures ∙ place-gives _ _ _ _ fm fx (c .before .before .before .before .slot .ensures) (s .pre .1) (s .pre .2)
 
 pub reading-spec : {M : Type 1} → statement M
 reading-spec = tie.close (tie.spec slot-requires add-i cast-i value-at-requires returns)

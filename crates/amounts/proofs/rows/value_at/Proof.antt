@@ -6,7 +6,7 @@ use Rattle.tables.specs.Lookup.{Inside}
 
 lookup-requires : tie.Need-lookup-requires
 unfolding Inside
-lookup-requires c κs = c .before .pre
+lookup-requires c κs = c .pre
 
 enum-known-found : tie.Need-enum-known-found
 enum-known-found c = search needs

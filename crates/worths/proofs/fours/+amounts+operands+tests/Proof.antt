@@ -45,39 +45,39 @@ use Rattle.worths.proofs.four.unsure.Reads as unsure-reads
 use Rattle.worths.proofs.fours.+amounts+operands+tests.{statement}
 use Rattle.worths.proofs.fours.+amounts+operands+tests.Tie.{close}
 
-abbrev μ-amounts : Measures 3 amounts-kinds.ps ℕ
+abbrev μ-amounts : Measures 6 amounts-kinds.ps ℕ
 μ-amounts κs a = 2 * a .1 .1 .1 .1 .1 .1 .0
 
-abbrev μ-operands : Measures 3 operands-kinds.ps ℕ
+abbrev μ-operands : Measures 6 operands-kinds.ps ℕ
 μ-operands κs a = 2 * a .1 .1 .1 .1 .1 .1 .0 + 1
 
-abbrev μ-tests : Measures 3 tests-kinds.ps ℕ
+abbrev μ-tests : Measures 6 tests-kinds.ps ℕ
 μ-tests κs a = 2 * a .1 .1 .1 .1 .1 .1 .0
 
-abbrev amounts-at : ℕ → In 3 amounts-kinds.ps
-amounts-at t = and 3 amounts-kinds.ps (is 3 amounts-kinds.ps μ-amounts t) amounts.Pre
+abbrev amounts-at : ℕ → In 6 amounts-kinds.ps
+amounts-at t = and 6 amounts-kinds.ps (is 6 amounts-kinds.ps μ-amounts t) amounts.Pre
 
-abbrev amounts-below : ℕ → In 3 amounts-kinds.ps
-amounts-below t = and 3 amounts-kinds.ps (falls 3 amounts-kinds.ps _<_ μ-amounts t) amounts.Pre
+abbrev amounts-below : ℕ → In 6 amounts-kinds.ps
+amounts-below t = and 6 amounts-kinds.ps (falls 6 amounts-kinds.ps _<_ μ-amounts t) amounts.Pre
 
-abbrev operands-at : ℕ → In 3 operands-kinds.ps
-operands-at t = and 3 operands-kinds.ps (is 3 operands-kinds.ps μ-operands t) operands.Pre
+abbrev operands-at : ℕ → In 6 operands-kinds.ps
+operands-at t = and 6 operands-kinds.ps (is 6 operands-kinds.ps μ-operands t) operands.Pre
 
-abbrev operands-below : ℕ → In 3 operands-kinds.ps
-operands-below t = and 3 operands-kinds.ps (falls 3 operands-kinds.ps _<_ μ-operands t) operands.Pre
+abbrev operands-below : ℕ → In 6 operands-kinds.ps
+operands-below t = and 6 operands-kinds.ps (falls 6 operands-kinds.ps _<_ μ-operands t) operands.Pre
 
-abbrev tests-at : ℕ → In 3 tests-kinds.ps
-tests-at t = and 3 tests-kinds.ps (is 3 tests-kinds.ps μ-tests t) tests.Pre
+abbrev tests-at : ℕ → In 6 tests-kinds.ps
+tests-at t = and 6 tests-kinds.ps (is 6 tests-kinds.ps μ-tests t) tests.Pre
 
-abbrev tests-below : ℕ → In 3 tests-kinds.ps
-tests-below t = and 3 tests-kinds.ps (falls 3 tests-kinds.ps _<_ μ-tests t) tests.Pre
+abbrev tests-below : ℕ → In 6 tests-kinds.ps
+tests-below t = and 6 tests-kinds.ps (falls 6 tests-kinds.ps _<_ μ-tests t) tests.Pre
 
 abbrev amounts-calls : ℕ → amounts-lts.Claims
 amounts-calls t = (slot-reads.Asked, slot-reads.Learnt, amount-letter-reads.Asked, amount-letter-reads.Learnt, number-reads.Asked, number-reads.Learnt, reading-reads.Asked, reading-reads.Learnt, operands-below t, operands.Post, link-reads.Asked, link-reads.Learnt, sum-of-reads.Asked, sum-of-reads.Learnt, difference-of-reads.Asked, difference-of-reads.Learnt, product-of-reads.Asked, product-of-reads.Learnt, over-reads.Asked, over-reads.Learnt, tests-below t, tests.Post, chosen-reads.Asked, chosen-reads.Learnt, unsure-reads.Asked, unsure-reads.Learnt)
 
 -- what is known in the arm of letter l
 amounts-here : (t : ℕ) (c : amounts-lts.After-amount-letter (amounts-calls t) (amounts-at t) amounts.Post) (l : AmountLetter) → c .amount-letter .result ≡ l
-    → AmountNode (c .before .before .args .nodes .now) (c .before .before .args .left) (c .before .before .args .at) l
+    → AmountNode (c .before .before .args .nodes .now .now) (c .before .before .args .left) (c .before .before .args .at) l
 amounts-here t c l e =
     let f : SFits w64 (c .before .slot .result) = search needs in
     let p = c .before .before .pre .1 in
@@ -131,7 +131,7 @@ amounts-operands-requires-2 t c κs =
     (omega (arith, n .some), rw (c .link .ensures) (c .before .before .before .before .before .before .pre .1 .0, c .before .before .before .before .before .before .pre .1 .1, n .stands .1 .1, n .fields .1))
 
 amounts-sum-of-requires : (t : ℕ) → amounts-lts.Need-sum-of-requires (amounts-calls t) (amounts-at t) amounts.Post
-amounts-sum-of-requires t c κs = (sure-small (c .before .before .before .before .before .before .before .args .span .h) (c .before .before .before .before .before .before .before .args .span .f) (c .before .before .before .before .before .before .before .args .bounds .now) (c .before .before .before .before .before .before .before .args .values .now) _ _ _ (c .before .before .operands .ensures), sure-small (c .before .before .before .before .before .before .before .args .span .h) (c .before .before .before .before .before .before .before .args .span .f) (c .before .before .before .before .before .before .before .args .bounds .now) (c .before .before .before .before .before .before .before .args .values .now) _ _ _ (c .operands2 .ensures))
+amounts-sum-of-requires t c κs = (sure-small (c .before .before .before .before .before .before .before .args .span .h) (c .before .before .before .before .before .before .before .args .span .f) (c .before .before .before .before .before .before .before .args .bounds .now .now) (c .before .before .before .before .before .before .before .args .values .now .now) _ _ _ (c .before .before .operands .ensures), sure-small (c .before .before .before .before .before .before .before .args .span .h) (c .before .before .before .before .before .before .before .args .span .f) (c .before .before .before .before .before .before .before .args .bounds .now .now) (c .before .before .before .before .before .before .before .args .values .now .now) _ _ _ (c .operands2 .ensures))
 
 amounts-add-operands-2 : (t : ℕ) → amounts-lts.Need-add-operands-2 (amounts-calls t) (amounts-at t) amounts.Post
 amounts-add-operands-2 t c =
@@ -166,7 +166,7 @@ amounts-operands-requires-4 t c κs =
     (omega (arith, n .some), rw (c .link2 .ensures) (c .before .before .before .before .before .before .pre .1 .0, c .before .before .before .before .before .before .pre .1 .1, n .stands .1 .1, n .fields .1))
 
 amounts-difference-of-requires : (t : ℕ) → amounts-lts.Need-difference-of-requires (amounts-calls t) (amounts-at t) amounts.Post
-amounts-difference-of-requires t c κs = (sure-small (c .before .before .before .before .before .before .before .args .span .h) (c .before .before .before .before .before .before .before .args .span .f) (c .before .before .before .before .before .before .before .args .bounds .now) (c .before .before .before .before .before .before .before .args .values .now) _ _ _ (c .before .before .operands3 .ensures), sure-small (c .before .before .before .before .before .before .before .args .span .h) (c .before .before .before .before .before .before .before .args .span .f) (c .before .before .before .before .before .before .before .args .bounds .now) (c .before .before .before .before .before .before .before .args .values .now) _ _ _ (c .operands4 .ensures))
+amounts-difference-of-requires t c κs = (sure-small (c .before .before .before .before .before .before .before .args .span .h) (c .before .before .before .before .before .before .before .args .span .f) (c .before .before .before .before .before .before .before .args .bounds .now .now) (c .before .before .before .before .before .before .before .args .values .now .now) _ _ _ (c .before .before .operands3 .ensures), sure-small (c .before .before .before .before .before .before .before .args .span .h) (c .before .before .before .before .before .before .before .args .span .f) (c .before .before .before .before .before .before .before .args .bounds .now .now) (c .before .before .before .before .before .before .before .args .values .now .now) _ _ _ (c .operands4 .ensures))
 
 amounts-add-operands-3 : (t : ℕ) → amounts-lts.Need-add-operands-3 (amounts-calls t) (amounts-at t) amounts.Post
 amounts-add-operands-3 t c =
@@ -201,7 +201,7 @@ amounts-operands-requires-6 t c κs =
     (omega (arith, n .some), rw (c .link3 .ensures) (c .before .before .before .before .before .before .pre .1 .0, c .before .before .before .before .before .before .pre .1 .1, n .stands .1 .1, n .fields .1))
 
 amounts-product-of-requires : (t : ℕ) → amounts-lts.Need-product-of-requires (amounts-calls t) (amounts-at t) amounts.Post
-amounts-product-of-requires t c κs = (sure-small (c .before .before .before .before .before .before .before .args .span .h) (c .before .before .before .before .before .before .before .args .span .f) (c .before .before .before .before .before .before .before .args .bounds .now) (c .before .before .before .before .before .before .before .args .values .now) _ _ _ (c .before .before .operands5 .ensures), sure-small (c .before .before .before .before .before .before .before .args .span .h) (c .before .before .before .before .before .before .before .args .span .f) (c .before .before .before .before .before .before .before .args .bounds .now) (c .before .before .before .before .before .before .before .args .values .now) _ _ _ (c .operands6 .ensures))
+amounts-product-of-requires t c κs = (sure-small (c .before .before .before .before .before .before .before .args .span .h) (c .before .before .before .before .before .before .before .args .span .f) (c .before .before .before .before .before .before .before .args .bounds .now .now) (c .before .before .before .before .before .before .before .args .values .now .now) _ _ _ (c .before .before .operands5 .ensures), sure-small (c .before .before .before .before .before .before .before .args .span .h) (c .before .before .before .before .before .before .before .args .span .f) (c .before .before .before .before .before .before .before .args .bounds .now .now) (c .before .before .before .before .before .before .before .args .values .now .now) _ _ _ (c .operands6 .ensures))
 
 amounts-add-operands-4 : (t : ℕ) → amounts-lts.Need-add-operands-4 (amounts-calls t) (amounts-at t) amounts.Post
 amounts-add-operands-4 t c =
@@ -223,7 +223,7 @@ amounts-over-requires : (t : ℕ) → amounts-lts.Need-over-requires (amounts-ca
 unfolding fieldsOfAmount
 amounts-over-requires t c κs =
     let n = amounts-here t (c .before .before .before) amount.Quotient (c .before .enum-told6 .given .1) in
-    (n .inside, record { some = n .fields .0; small = n .fields .1 }, sure-small (c .before .before .before .before .before .args .span .h) (c .before .before .before .before .before .args .span .f) (c .before .before .before .before .before .args .bounds .now) (c .before .before .before .before .before .args .values .now) _ _ _ (c .operands7 .ensures))
+    (n .inside, record { some = n .fields .0; small = n .fields .1 }, sure-small (c .before .before .before .before .before .args .span .h) (c .before .before .before .before .before .args .span .f) (c .before .before .before .before .before .args .bounds .now .now) (c .before .before .before .before .before .args .values .now .now) _ _ _ (c .operands7 .ensures))
 
 amounts-add-tests : (t : ℕ) → amounts-lts.Need-add-tests (amounts-calls t) (amounts-at t) amounts.Post
 amounts-add-tests t c =
@@ -413,7 +413,7 @@ tests-calls t = (slot-reads.Asked, slot-reads.Learnt, test-letter-reads.Asked, t
 
 -- what is known in the arm of letter l
 tests-here : (t : ℕ) (c : tests-lts.After-test-letter (tests-calls t) (tests-at t) tests.Post) (l : TestLetter) → c .test-letter .result ≡ l
-    → TestNode (c .before .before .args .nodes .now) (c .before .before .args .left) (c .before .before .args .at) l
+    → TestNode (c .before .before .args .nodes .now .now) (c .before .before .args .left) (c .before .before .args .at) l
 tests-here t c l e =
     let f : SFits w64 (c .before .slot .result) = search needs in
     let p = c .before .before .pre .1 in

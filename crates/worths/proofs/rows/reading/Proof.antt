@@ -16,9 +16,9 @@ label-requires c κs = search needs
 
 labelled-requires : tie.Need-labelled-requires
 labelled-requires c κs =
-    let s = c .before .before .before in
+    let s = c .before .before .before .before .before in
     let a = s .args in
-    (s .pre .1 .kept, rows.read-small (a .span .h) (a .span .f) (a .bounds .now) (a .values .now) (s .pre .1) (a .waited .0) _ (s .pre .2) (s .pre .3) (c .before .later .ensures) (c .before .before .month-at .ensures))
+    (s .pre .1 .kept, rows.read-small (a .span .h) (a .span .f) (a .bounds .now .now) (a .values .now .now) (s .pre .1) (a .waited .0) _ (s .pre .2) (s .pre .3) (c .before .before .before .later .ensures) (c .before .before .before .before .month-at .ensures))
 
 enum-known-found : tie.Need-enum-known-found
 enum-known-found c = search needs
@@ -28,15 +28,15 @@ enum-told c = search needs
 
 returns : tie.Need-returns
 returns c =
-    let s = c .before .before .before .before .before .before .before in
+    let s = c .before .before .before .before .before .before .before .before .before in
     let a = s .args in
-    rows.read-found (a .span .h) (a .span .f) (a .bounds .now) (a .values .now) (s .pre .1) (a .waited .0) _ (s .pre .2) (s .pre .3) (c .before .before .before .before .label .ensures) (c .before .before .before .before .before .later .ensures) (c .before .before .before .before .before .before .month-at .ensures) _ (c .before .before .before .labelled .ensures) _ (c .before .found .given .1)
+    rows.read-found (a .span .h) (a .span .f) (a .bounds .now .now) (a .values .now .now) (s .pre .1) (a .waited .0) _ (s .pre .2) (s .pre .3) (c .before .before .before .before .label .ensures) (c .before .before .before .before .before .before .before .later .ensures) (c .before .before .before .before .before .before .before .before .month-at .ensures) _ (c .before .before .before .labelled .ensures) _ (c .before .found .given .1)
 
 returns-2 : tie.Need-returns-2
 returns-2 c =
-    let s = c .before .before .before .before .before .before in
+    let s = c .before .before .before .before .before .before .before .before in
     let a = s .args in
-    rows.read-outside (a .span .h) (a .span .f) (a .bounds .now) (a .values .now) (s .pre .1) (a .waited .0) _ (s .pre .2) (s .pre .3) (c .before .before .before .label .ensures) (c .before .before .before .before .later .ensures) (c .before .before .before .before .before .month-at .ensures) _ (c .before .before .labelled .ensures) (c .enum-told .given .1)
+    rows.read-outside (a .span .h) (a .span .f) (a .bounds .now .now) (a .values .now .now) (s .pre .1) (a .waited .0) _ (s .pre .2) (s .pre .3) (c .before .before .before .label .ensures) (c .before .before .before .before .before .before .later .ensures) (c .before .before .before .before .before .before .before .month-at .ensures) _ (c .before .before .labelled .ensures) (c .enum-told .given .1)
 
 pub reading-spec : {M : Type 1} → statement M
 reading-spec =
