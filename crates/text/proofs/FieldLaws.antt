@@ -33,6 +33,7 @@ module _ (k : Class) (text : List ℕ) (at : ℕ) where
     is = ap (firstAs k) (first-field text at h) ∙ held .is;
     rest = ap behind (first-field text at h) ∙ ap (fieldsFrom text) (omega arith);
     slot = held .slot;
+    onward = omega (arith, q);
     within = omega (arith, up-fits 44 text at h);
   }
 
@@ -88,7 +89,7 @@ first-fails k ks n (f ∷ fs) v e h = rw (e, h) refl
 module _ (text : List ℕ) (at : ℕ) where
   pub read-none : at ≤ length text + 1 → ReadUpTo [] text at [] at
   unfolding readFields
-  read-none h = record { is = λ n. refl; within = h }
+  read-none h = record { is = λ n. refl; onward = omega arith; within = h }
 
   module _ (k : Class) (ks : List Class) where
     pub bad-first : firstAs k (fieldsFrom text at) ≡ none → Malformed (k ∷ ks) text at
@@ -98,6 +99,7 @@ module _ (text : List ℕ) (at : ℕ) where
       pub read-more : (values : List Field) (end : ℕ) → ReadUpTo ks text next values end → ReadUpTo (k ∷ ks) text at (t .field ∷ values) end
       read-more values end r = record {
         is = λ n. first-then k ks n (fieldsFrom text at) (fieldsFrom text end) (t .field) values (t .is) (rw (t .rest) (r .is n));
+        onward = omega (arith, t .onward, r .onward);
         within = r .within;
       }
 

@@ -266,7 +266,7 @@ module _ (own left w x y e : ℕ) (a : left < 64) (b : w ≤ 1) (c : x ≤ 3) (d
 module _ {P : Type 0} (form : Form P) (text : List ℕ) where
   -- ---- a node is opened
 
-  module _ (old new : List ℤ) (stack : List ℕ) (at kind count left waiting next kids : ℕ) (size : length old ≡ 2560)
+  module _ (old new : List ℤ) (stack : List ℕ) (at kind count left waiting next kids : ℕ) (fits : 5 * count + 5 ≤ length old)
       (g : Going form text old stack at kind count left waiting) (r : RowBegun form left (kindAt kind) text at old new count next kids) where
     abbrev h : Head
     h = r .head
@@ -282,7 +282,7 @@ module _ {P : Type 0} (form : Form P) (text : List ℕ) where
 
     opened-rows : (row : List ℤ) → openRow h ≡ row → take (5 * (count + 1)) new ≡ held form (g .frames) ++ row
     opened-rows row e =
-        ap (take (5 * (count + 1))) (r .row) ∙ row-behind old (openRow h) count refl (omega (arith, b .room, size))
+        ap (take (5 * (count + 1))) (r .row) ∙ row-behind old (openRow h) count refl fits
         ∙ ap₂ (λ (x y : List ℤ). x ++ y) (g .holds) e
 
     plus-nothing : (own d x y : ℕ) → own * 2048 + d * 32 + (x + 4 * y) ≡ own * 2048 + d * 32 + 0 * 16 + x + 4 * y

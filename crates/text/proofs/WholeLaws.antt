@@ -2,6 +2,7 @@
 use Prim.Native.Nat.{_%_, _*_, _+_, _-_, _/_, _<_, _≤_, ℕ}
 use lib.IntN.{pos, ℤ}
 use lib.ListN.{getD, length, length-set, set}
+use lib.Seq.{length-sets}
 use mathlib.Core.List.{List, [], _∷_}
 use mathlib.Core.Path.{_∙_, _≡_, ap, refl, subst, sym}
 use native.Mathlib.Omega.{arith}
@@ -9,7 +10,8 @@ use Rattle.language.specs.Answer.{refused}
 use Rattle.language.specs.Text.Letters.{Form}
 use Rattle.text.specs.Letters.{kindAt}
 use Rattle.text.specs.Refusals.{numberOf}
-use Rattle.text.specs.Rows.{RowBegun, RowIs}
+use Rattle.text.specs.Room.{Roomy}
+use Rattle.text.specs.Rows.{RowBegun, RowIs, openRow}
 use Rattle.text.specs.Trees.{Refuses}
 use Rattle.text.specs.Whole.{Grown, wholeText}
 use Rattle.text.specs.declared.Refusal.{Refusal}
@@ -18,13 +20,18 @@ use Rattle.text.specs.declared.whole.Row.the-variants.{Open, Shut}
 use Rattle.text.proofs.Nesting.{AllSized, Going, Kept, closed, held, heldCount, toCome, waits}
 use Rattle.text.proofs.NestingLaws.{Waiter, closed-refused, few-waiting, finished, follows-last, follows-waits, inside-last, inside-waits, kind-some, leaf-done, own-before, waiter, waits-few}
 
+-- a table as long as one with room
+as-roomy : (text : List ℕ) (nodes n : List ℤ) → length n ≡ length nodes → Roomy text nodes → Roomy text n
+as-roomy text nodes n e r i h k = omega (arith, e, r i h k)
+
 module _ {P : Type 0} (form : Form P) (text : List ℕ) where
   -- a row was opened, or is refused
   pub record Opening (nodes : List ℤ) (stack : List ℕ) (waiting count left : ℕ) (row : Row) : Type 0 where
     pub at : ℕ
     pub kind : ℕ
     pub old : List ℤ
-    pub size : length old ≡ 2560
+    pub size : Roomy text old
+    pub paced : 2 * count ≤ at
     pub going : Going form text old stack at kind count left waiting
     pub row-is : RowIs form left (kindAt kind) text at old nodes count row
 
@@ -35,7 +42,8 @@ module _ {P : Type 0} (form : Form P) (text : List ℕ) where
     pub few-kinds : kind ≤ 3
     pub within : at ≤ length text + 1
     pub room : count ≤ 512
-    pub size : length nodes ≡ 2560
+    pub size : Roomy text nodes
+    pub paced : 2 * count ≤ at
     pub places : length stack ≡ 32
 
   -- at the root
@@ -61,6 +69,22 @@ module _ {P : Type 0} (form : Form P) (text : List ℕ) where
     row-within : next ≤ length text + 1
     row-within = omega (arith, r .behind, r .begun .within)
 
+    row-paced : 2 * (count + 1) ≤ next
+    row-paced = omega (arith, o .paced, r .begun .onward, r .behind)
+
+    -- the table has its row
+    row-place : 5 * count + 5 ≤ length (o .old)
+    row-place = o .size count row-room (omega (arith, o .paced, r .begun .onward, r .begun .within))
+
+    row-length : length nodes ≡ length (o .old)
+    row-length = ap length (r .row) ∙ length-sets (o .old) (5 * count) (openRow (r .head))
+
+    pub row-fits : 5 * count + 5 ≤ length nodes
+    row-fits = omega (arith, row-place, row-length)
+
+    row-size : Roomy text nodes
+    row-size = as-roomy text (o .old) nodes row-length (o .size)
+
     pub few-left : left ≤ 32
     few-left = omega (arith, o .going .level)
 
@@ -72,13 +96,13 @@ module _ {P : Type 0} (form : Form P) (text : List ℕ) where
       pub leaf-finished : waiting ≡ 0 → Grown form text nodes next (count + 1)
       leaf-finished w =
           finished form text nodes stack (o .going .frames) (r .begun .sort) (r .begun .values) _ next (count + 1) waiting
-          (leaf-done form text (o .old) nodes stack (o .at) (o .kind) count left waiting next kids (o .size) (o .going) r z) w
+          (leaf-done form text (o .old) nodes stack (o .at) (o .kind) count left waiting next kids row-place (o .going) r z) w
 
       module _ (n : waiting ≡ 0 → ⊥) where
         pub leaf-waiter : Waiter form text nodes stack next (count + 1) waiting
         leaf-waiter =
             waiter form text nodes stack (o .going .frames) (r .begun .sort) (r .begun .values) _ next (count + 1) waiting
-            (leaf-done form text (o .old) nodes stack (o .at) (o .kind) count left waiting next kids (o .size) (o .going) r z) n
+            (leaf-done form text (o .old) nodes stack (o .at) (o .kind) count left waiting next kids row-place (o .going) r z) n
 
         abbrev entry : ℕ
         entry = getD stack (waiting - 1) 0
@@ -98,7 +122,10 @@ module _ {P : Type 0} (form : Form P) (text : List ℕ) where
         abbrev linked : List ℤ
         linked = set nodes (5 * (entry / 2048) + 3 + entry / 16 % 2) (pos (count + 1 - entry / 2048))
 
-        module _ (new : List ℤ) (e : new ≡ linked) (size : length new ≡ 2560) (places : length stack ≡ 32) where
+        module _ (new : List ℤ) (e : new ≡ linked) (places : length stack ≡ 32) where
+          linked-size : Roomy text new
+          linked-size = as-roomy text nodes new (ap length e ∙ length-set nodes _ _) row-size
+
           pub ready-last : entry % 16 < 4 → Ready new stack next (entry % 4) (count + 1) (entry / 32 % 64) (waiting - 1)
           ready-last h = record {
             going = subst (λ (l : List ℤ). Going form text l stack next (entry % 4) (count + 1) (entry / 32 % 64) (waiting - 1)) (sym e) (follows-last form text nodes stack next (count + 1) waiting leaf-waiter h);
@@ -106,7 +133,8 @@ module _ {P : Type 0} (form : Form P) (text : List ℕ) where
             few-kinds = omega arith;
             within = row-within;
             room = omega (arith, row-room);
-            size = size;
+            size = linked-size;
+            paced = row-paced;
             places = places;
           }
 
@@ -119,35 +147,38 @@ module _ {P : Type 0} (form : Form P) (text : List ℕ) where
             few-kinds = omega arith;
             within = row-within;
             room = omega (arith, row-room);
-            size = size;
+            size = linked-size;
+            paced = row-paced;
             places = length-set stack (waiting - 1) v ∙ places;
           }
 
     -- a node with children
-    module _ (n : kids % 4 ≡ 0 → ⊥) (size : length nodes ≡ 2560) where
+    module _ (n : kids % 4 ≡ 0 → ⊥) where
       first-kind : 0 < kids % 4
       first-kind = omega (arith, n)
 
       pub ready-one : kids / 4 % 4 ≡ 0 → length stack ≡ 32 → Ready nodes stack next (kids % 4) (count + 1) (left - 1) waiting
       ready-one z places = record {
-        going = inside-last form text (o .old) nodes stack (o .at) (o .kind) count left waiting next kids (o .size) (o .going) r n z;
+        going = inside-last form text (o .old) nodes stack (o .at) (o .kind) count left waiting next kids row-place (o .going) r n z;
         some-kind = first-kind;
         few-kinds = omega arith;
         within = row-within;
         room = omega (arith, row-room);
-        size = size;
+        size = row-size;
+        paced = row-paced;
         places = places;
       }
 
       pub ready-more : (kids / 4 % 4 ≡ 0 → ⊥) → length stack ≡ 32 → (v : ℕ) → v ≡ count * 2048 + (left - 1) * 32 + kids / 4
           → Ready nodes (set stack waiting v) next (kids % 4) (count + 1) (left - 1) (waiting + 1)
       ready-more m places v e = record {
-        going = inside-waits form text (o .old) nodes stack (o .at) (o .kind) count left waiting next kids (o .size) (o .going) r n m places v e;
+        going = inside-waits form text (o .old) nodes stack (o .at) (o .kind) count left waiting next kids row-place (o .going) r n m places v e;
         some-kind = first-kind;
         few-kinds = omega arith;
         within = row-within;
         room = omega (arith, row-room);
-        size = size;
+        size = row-size;
+        paced = row-paced;
         places = length-set stack waiting v ∙ places;
       }
 

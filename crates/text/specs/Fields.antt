@@ -38,6 +38,7 @@ pub record Taken (c : Class) (text : List ℕ) (at : ℕ) (slots : List ℤ) (ne
   pub is : firstAs c (fieldsFrom text at) ≡ some field
   pub rest : behind (fieldsFrom text at) ≡ fieldsFrom text next
   pub slot : fieldSlots field ≡ slots
+  pub onward : at ≤ next
   pub within : next ≤ length text + 1
 
 abbrev pub TakenIs : Class → List ℕ → ℕ → Taking → Type 0
@@ -78,6 +79,7 @@ classesOfThree c d e = cond (eqb c 0) [] (cond (eqb c 7) (month ∷ classesOfTwo
 -- fields of these classes were read from byte `at` up to byte next, whatever the count of nodes
 pub record ReadUpTo (cs : List Class) (text : List ℕ) (at : ℕ) (values : List Field) (next : ℕ) : Type 0 where
   pub is : (n : ℕ) → readFields cs (record { nodes = n; fields = fieldsFrom text at }) ≡ got (record { value = values; rest = record { nodes = n; fields = fieldsFrom text next } })
+  pub onward : at ≤ next
   pub within : next ≤ length text + 1
 
 -- a field of these classes is missing or malformed

@@ -2,6 +2,7 @@
 pub mod Refusals
 pub mod ReadInto
 pub mod Positions
+pub mod Room
 pub mod Numbers
 pub mod Classes
 pub mod Settings

@@ -36,6 +36,7 @@ module _ {P : Type 0} (form : Form P) (left : ℕ) where
     pub second : slotAt values 1 ≡ h .b
     pub third : slotAt values 2 ≡ h .c
     pub fourth : slotAt values 3 ≡ h .d
+    pub onward : at + 2 ≤ h .next
     pub within : h .next ≤ length text + 1
     pub room : count < maxNodes
     pub level : 0 < left

@@ -6,6 +6,7 @@ ghost use Rattle.language.specs.Text.Reader.{readText};
 ghost use Rattle.text.specs.Letters.{formOf};
 ghost use Rattle.text.specs.ReadInto.{CountIs, ReadInto};
 ghost use Rattle.text.specs.Refusals.{numberOf};
+ghost use Rattle.text.specs.Room.{Roomy};
 
 mod fields;
 mod letters;
@@ -75,9 +76,9 @@ fn longest(form: TextForm) -> usize
 }
 
 fn read_text(form: TextForm, text: &[u8], nodes: &mut [i64]) -> Reading
-    requires { ⌜ length (now nodes) ≡ 2560 ⌝ }
+    requires { ⌜ Roomy (now text) (now nodes) ⌝ }
     ensures is { λ r. ⌜ ReadInto (formOf form) (readText (formOf form) (now (text .entry))) (now (nodes .exit)) r ⌝ }
-    ensures kept { λ r. ⌜ length (now (nodes .exit)) ≡ 2560 ⌝ }
+    ensures kept { λ r. ⌜ length (now (nodes .exit)) ≡ length (now (nodes .entry)) ⌝ }
 {
     if longest(form) < text.len() {
         return Reading::Refused(Refusal::TooLong);
@@ -95,17 +96,17 @@ fn read_text(form: TextForm, text: &[u8], nodes: &mut [i64]) -> Reading
 }
 
 pub fn read_plan(text: &[u8], nodes: &mut [i64]) -> Reading
-    requires { ⌜ length (now nodes) ≡ 2560 ⌝ }
+    requires { ⌜ Roomy (now text) (now nodes) ⌝ }
     ensures is { λ r. ⌜ ReadInto planForm (readText planForm (now (text .entry))) (now (nodes .exit)) r ⌝ }
-    ensures kept { λ r. ⌜ length (now (nodes .exit)) ≡ 2560 ⌝ }
+    ensures kept { λ r. ⌜ length (now (nodes .exit)) ≡ length (now (nodes .entry)) ⌝ }
 {
     read_text(TextForm::Plan, text, nodes)
 }
 
 pub fn read_payoff(text: &[u8], nodes: &mut [i64]) -> Reading
-    requires { ⌜ length (now nodes) ≡ 2560 ⌝ }
+    requires { ⌜ Roomy (now text) (now nodes) ⌝ }
     ensures is { λ r. ⌜ ReadInto payoffForm (readText payoffForm (now (text .entry))) (now (nodes .exit)) r ⌝ }
-    ensures kept { λ r. ⌜ length (now (nodes .exit)) ≡ 2560 ⌝ }
+    ensures kept { λ r. ⌜ length (now (nodes .exit)) ≡ length (now (nodes .entry)) ⌝ }
 {
     read_text(TextForm::Payoff, text, nodes)
 }

@@ -8,6 +8,7 @@ ghost use lib.Seq.{sets};
 ghost use Rattle.text.specs.Letters.{formOf, kindAt};
 ghost use Rattle.text.specs.Positions.{upTo};
 ghost use Rattle.text.specs.Packed.{rowOf};
+ghost use Rattle.text.specs.Room.{Roomy};
 ghost use Rattle.text.specs.Rows.{RowIs, kidsOf, openRow};
 ghost use Rattle.text.specs.Trees.{OpenedIs, SoleIs};
 ghost use Rattle.text.specs.declared.whole.Row.the-variants.{Open};
@@ -163,7 +164,7 @@ pub fn open_general(
     count: usize,
     left: usize,
 ) -> usize
-    requires { ⌜ (at ≤ length (now text) + 1) × (length (now text) ≤ 53760) × (length (now nodes) ≡ 2560) × (0 < kind) × (kind ≤ 3) ⌝ }
+    requires { ⌜ (at ≤ length (now text) + 1) × (length (now text) ≤ 53760) × Roomy (now text) (now nodes) × (2 * count ≤ at) × (0 < kind) × (kind ≤ 3) ⌝ }
     ensures { λ r. ⌜ RowIs (formOf form) left (kindAt kind) (now (text .entry)) at (now (nodes .entry)) (now (nodes .exit)) count (rowOf r) ⌝ }
 {
     match open_any(form, text, at, kind, count, left) {

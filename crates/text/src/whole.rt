@@ -5,6 +5,7 @@ ghost use lib.IntN.{pos};
 ghost use lib.ListN.{length, set};
 ghost use Rattle.text.specs.Letters.{formOf, kindAt};
 ghost use Rattle.text.specs.Packed.{refusalOf, rowOf};
+ghost use Rattle.text.specs.Room.{Roomy};
 ghost use Rattle.text.specs.Rows.{RowIs};
 ghost use Rattle.text.specs.Whole.{ReadIs};
 use crate::Refusal;
@@ -76,7 +77,7 @@ fn open_row(
     count: usize,
     left: usize,
 ) -> Row
-    requires { ⌜ (at ≤ length (now text) + 1) × (length (now text) ≤ 53760) × (length (now nodes) ≡ 2560) × (0 < kind) × (kind ≤ 3) ⌝ }
+    requires { ⌜ (at ≤ length (now text) + 1) × (length (now text) ≤ 53760) × Roomy (now text) (now nodes) × (2 * count ≤ at) × (0 < kind) × (kind ≤ 3) ⌝ }
     ensures { λ r. ⌜ RowIs (formOf form) left (kindAt kind) (now (text .entry)) at (now (nodes .entry)) (now (nodes .exit)) count r ⌝ }
 {
     if count < MAX_NODES {
@@ -113,9 +114,9 @@ fn waiting_for(own: usize, left: usize, kids: u8) -> usize
 
 // All nodes of a text. A leaf is followed by the next child of the innermost node that waits for one.
 pub fn read_rows(form: TextForm, text: &[u8], nodes: &mut [i64]) -> Read
-    requires { ⌜ (length (now text) ≤ 53760) × (length (now nodes) ≡ 2560) ⌝ }
+    requires { ⌜ (length (now text) ≤ 53760) × Roomy (now text) (now nodes) ⌝ }
     ensures is { λ r. ⌜ ReadIs (formOf form) (now (text .entry)) (now (nodes .exit)) r ⌝ }
-    ensures kept { λ r. ⌜ length (now (nodes .exit)) ≡ 2560 ⌝ }
+    ensures kept { λ r. ⌜ length (now (nodes .exit)) ≡ length (now (nodes .entry)) ⌝ }
 {
     let mut stack = [0usize; 32];
     let mut waiting: usize = 0;

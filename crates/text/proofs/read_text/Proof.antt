@@ -1,7 +1,7 @@
 use borrow.Author.Needs.{needs}
 use Prim.Native.Nat.{_<_, _≤_, ℕ}
 use lib.ListN.{length}
-use mathlib.Core.Path.{_∙_, subst}
+use mathlib.Core.Path.{_∙_, refl, subst}
 use native.Mathlib.Omega.{arith}
 use Rattle.text.specs.Letters.{formOf}
 use Rattle.text.specs.Whole.{ReadIs}
@@ -20,7 +20,7 @@ longest-requires c κs = search needs
 returns : tie.Need-returns
 returns c =
     let a = c .before .before .before .args in
-    (text-long (formOf (a .form)) (a .text .now) (subst (λ (n : ℕ). n < length (a .text .now)) (c .before .longest .ensures) (c .if1 .taken)), c .before .before .before .pre)
+    (text-long (formOf (a .form)) (a .text .now) (subst (λ (n : ℕ). n < length (a .text .now)) (c .before .longest .ensures) (c .if1 .taken)), refl)
 
 read-rows-requires : tie.Need-read-rows-requires
 read-rows-requires c κs =

@@ -25,7 +25,7 @@ put-opened-requires : tie.Need-put-opened-requires
 put-opened-requires c κs =
     let p = c .before .before .before .before .before .before .pre in
     let b = subst (OpenedIs _ _ _ _ _ _) (c .before .before .h .given .1) (c .before .before .before .before .open-any .ensures) in
-    omega (arith, p .2, b .room)
+    p .2 _ (b .room) (omega (arith, p .3, b .onward, b .within))
 
 number-for-requires : tie.Need-number-for-requires
 number-for-requires c κs =

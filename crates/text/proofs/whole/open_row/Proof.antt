@@ -6,6 +6,7 @@ use mathlib.Core.Logic.{⊎-elim}
 use mathlib.Core.Path.{_∙_, _≡_, ap, refl, subst, sym}
 use native.Mathlib.Omega.{arith}
 use Rattle.text.specs.Letters.{formOf, kindAt}
+use Rattle.text.specs.Room.{Roomy}
 use Rattle.text.specs.Rows.{QuickIs, RowIs}
 use Rattle.text.proofs.whole.open_row.Statement.{statement}
 use Rattle.text.proofs.whole.open_row.Tie as tie
@@ -23,7 +24,7 @@ quick-row-requires : tie.Need-quick-row-requires
 quick-row-requires c κs =
     let p = c .before .before .before .before .before .before .pre in
     let q = c .before .before .stands-at .ensures (c .before .if3 .taken) in
-    (q .0, q .1, omega (arith, p .2, c .before .before .before .before .if1 .taken), p .3)
+    (q .0, q .1, p .2 _ (c .before .before .before .before .if1 .taken) (omega (arith, p .3, q .0)), p .4)
 
 enum-known-next : tie.Need-enum-known-next
 enum-known-next c = search needs
@@ -47,7 +48,7 @@ open-general-requires c κs =
     let same : c .before .if1 .nodes ≡ a .nodes .now =
     ⊎-elim (λ t. t .9 ∙ subst (QuickIs (formOf (a .form)) (kindAt (a .kind)) (a .text .now) (a .at) (a .nodes .now) _ (a .count)) (t .8 .given .1) (t .5 .ensures))
     (λ u. ⊎-elim (λ t. t .4) (λ v. ⊎-elim (λ t. t .2) (λ t. t .1) v) u) (c .before .if1 .came) in
-    (p .0, p .1, ap length same ∙ p .2, p .3, p .4)
+    (p .0, p .1, subst (Roomy (a .text .now)) (sym same) (p .2), p .3, p .4, p .5)
 
 row-of-requires : tie.Need-row-of-requires
 row-of-requires c κs = search needs

@@ -6,7 +6,7 @@ use mathlib.Core.Path.{_∙_, _≡_, ap, refl, subst, sym}
 use native.Mathlib.Omega.{arith}
 use Rattle.text.specs.Letters.{formOf, kindAt}
 use Rattle.text.specs.Rows.{RowIs}
-use Rattle.text.proofs.WholeLaws.{Opening, Ready, few-left, leaf-finished, leaf-own, leaf-places, places-left, ready-as, ready-last, ready-more, ready-one, ready-third, row-level, row-room, shut, start}
+use Rattle.text.proofs.WholeLaws.{Opening, Ready, few-left, leaf-finished, leaf-own, leaf-places, places-left, ready-as, ready-last, ready-more, ready-one, ready-third, row-fits, row-level, row-room, shut, start}
 use Rattle.text.proofs.whole.read_rows.Statement.{statement}
 use Rattle.text.proofs.whole.read_rows.Tie as tie
 use Rattle.text.proofs.whole.read_rows.Reads as reads
@@ -18,13 +18,13 @@ use Rattle.text.proofs.whole.row_of.Reads as row-of-reads
 use Rattle.text.proofs.whole.waiting_for.Reads as waiting-for-reads
 
 abbrev Inv-loop : tie.InvT-loop
-Inv-loop form text nodes₀ stack₀ waiting₀ count₀ left₀ row₀ nodes stack waiting count left row = (length nodes ≡ 2560) × (length stack ≡ 32) × Opening (formOf form) text nodes stack waiting count left row
+Inv-loop form text nodes₀ stack₀ waiting₀ count₀ left₀ row₀ nodes stack waiting count left row = (length nodes ≡ length nodes₀) × (length stack ≡ 32) × Opening (formOf form) text nodes stack waiting count left row
 
 abbrev μ-loop : tie.MeasureT-loop
 μ-loop form text nodes₀ stack₀ waiting₀ count₀ left₀ row₀ nodes stack waiting count left row = 513 - count
 
 open-general-requires : tie.Need-open-general-requires Inv-loop μ-loop
-open-general-requires c κs = (omega arith, c .before .before .pre .0, c .before .before .pre .1, omega arith, omega arith)
+open-general-requires c κs = (omega arith, c .before .before .pre .0, c .before .before .pre .1, omega arith, omega arith, omega arith)
 
 row-of-requires : tie.Need-row-of-requires Inv-loop μ-loop
 row-of-requires c κs = tt
@@ -32,13 +32,14 @@ row-of-requires c κs = tt
 loop-holds : tie.Need-loop-holds Inv-loop μ-loop
 loop-holds c =
     let a = c .before .before .before .before .before .args in (
-      c .before .before .open-general .kept .1 .1 .1 .1 .0 ∙ c .before .before .before .before .before .pre .1,
+      refl,
       refl,
       record {
         at = 0;
         kind = 1;
         old = a .nodes .now;
         size = c .before .before .before .before .before .pre .1;
+        paced = omega arith;
         going = start (formOf (a .form)) (a .text .now) (a .nodes .now) _;
         row-is = subst (RowIs (formOf (a .form)) 32 (kindAt 1) (a .text .now) 0 (a .nodes .now) (c .before .before .open-general .last .1 .1 .1 .1 .0) 0) (sym (c .row-of .ensures)) (c .before .before .open-general .ensures);
       },
@@ -57,11 +58,8 @@ add-count c =
 
 same-length : tie.Need-same-length Inv-loop μ-loop
 same-length c =
-    let a = c .before .before .before .before .before .before .before .before .before .before .before .args in
     let l = c .before .before .before .before .before .loop in
-    let g = c .before .before .before .row .given in
-    let o = subst (Opening (formOf (a .form)) (a .text .now) (l .nodes) (l .stack) (l .waiting) (l .count) (l .left)) (g .1) (l .inv .2) in
-    l .inv .0 ∙ sym (c .before .before .before .before .before .before .before .before .before .before .before .pre .1)
+    l .inv .0 ∙ c .before .before .before .before .before .before .before .before .open-general .kept .1 .1 .1 .1 .0
 
 returns : tie.Need-returns Inv-loop μ-loop
 returns c =
@@ -69,7 +67,7 @@ returns c =
     let l = c .before .before .before .before .before .loop in
     let g = c .before .before .before .row .given in
     let o = subst (Opening (formOf (a .form)) (a .text .now) (l .nodes) (l .stack) (l .waiting) (l .count) (l .left)) (g .1) (l .inv .2) in
-    (leaf-finished (formOf (a .form)) (a .text .now) (l .nodes) (l .stack) (l .waiting) (l .count) (l .left) (g .0 .0) (g .0 .1 .0) o (c .before .if1 .taken) (c .if2 .taken), l .inv .0)
+    (leaf-finished (formOf (a .form)) (a .text .now) (l .nodes) (l .stack) (l .waiting) (l .count) (l .left) (g .0 .0) (g .0 .1 .0) o (c .before .if1 .taken) (c .if2 .taken), same-length c)
 
 sub-entry : tie.Need-sub-entry Inv-loop μ-loop
 sub-entry c = omega (arith, c .if2 .left)
@@ -98,7 +96,8 @@ put-link-requires c κs =
     let o = subst (Opening (formOf (a .form)) (a .text .now) (l .nodes) (l .stack) (l .waiting) (l .count) (l .left)) (g .1) (l .inv .2) in
     let own = (leaf-own (formOf (a .form)) (a .text .now) (l .nodes) (l .stack) (l .waiting) (l .count) (l .left) (g .0 .0) (g .0 .1 .0) o (c .before .before .if1 .taken) (c .before .if2 .left)) in
     let room = row-room (formOf (a .form)) (a .text .now) (l .nodes) (l .stack) (l .waiting) (l .count) (l .left) (g .0 .0) (g .0 .1 .0) o in
-    (omega (arith, own, room, l .inv .0), omega arith, omega (arith, own), omega (arith, room))
+    let fits = row-fits (formOf (a .form)) (a .text .now) (l .nodes) (l .stack) (l .waiting) (l .count) (l .left) (g .0 .0) (g .0 .1 .0) o in
+    (omega (arith, own, fits), omega arith, omega (arith, own), omega (arith, room))
 
 cast-kind : tie.Need-cast-kind Inv-loop μ-loop
 cast-kind c = omega arith
@@ -201,15 +200,15 @@ ready c =
     let o = subst (Opening (formOf (a .form)) (a .text .now) (l .nodes) (l .stack) (l .waiting) (l .count) (l .left)) (g .1) (l .inv .2) in
     ⊎-elim
     (λ t. ready-as (formOf (a .form)) (a .text .now) _ _ _ _ _ _ _ _ _ _ _ _ _
-    (ready-last (formOf (a .form)) (a .text .now) (l .nodes) (l .stack) (l .waiting) (l .count) (l .left) (g .0 .0) (g .0 .1 .0) o (t .0 .taken) (t .1 .left) _ (t .3 .ensures) (t .3 .kept .0 ∙ l .inv .0) (l .inv .1) (t .5 .taken)) (t .6) (t .7) (t .8) (t .9) (t .10) (t .11))
+    (ready-last (formOf (a .form)) (a .text .now) (l .nodes) (l .stack) (l .waiting) (l .count) (l .left) (g .0 .0) (g .0 .1 .0) o (t .0 .taken) (t .1 .left) _ (t .3 .ensures) (l .inv .1) (t .5 .taken)) (t .6) (t .7) (t .8) (t .9) (t .10) (t .11))
     (λ u. ⊎-elim
     (λ t. ready-as (formOf (a .form)) (a .text .now) _ _ _ _ _ _ _ _ _ _ _ _ _
-    (ready-third (formOf (a .form)) (a .text .now) (l .nodes) (l .stack) (l .waiting) (l .count) (l .left) (g .0 .0) (g .0 .1 .0) o (t .0 .taken) (t .1 .left) _ (t .3 .ensures) (t .3 .kept .0 ∙ l .inv .0) (l .inv .1) (λ e. omega (arith, e, t .5 .left)) _ refl) (t .6) (t .7) (t .8) (t .9) (t .10) (t .11))
+    (ready-third (formOf (a .form)) (a .text .now) (l .nodes) (l .stack) (l .waiting) (l .count) (l .left) (g .0 .0) (g .0 .1 .0) o (t .0 .taken) (t .1 .left) _ (t .3 .ensures) (l .inv .1) (λ e. omega (arith, e, t .5 .left)) _ refl) (t .6) (t .7) (t .8) (t .9) (t .10) (t .11))
     (λ t. ⊎-elim
     (λ v. ready-as (formOf (a .form)) (a .text .now) _ _ _ _ _ _ _ _ _ _ _ _ _
-    (ready-more (formOf (a .form)) (a .text .now) (l .nodes) (l .stack) (l .waiting) (l .count) (l .left) (g .0 .0) (g .0 .1 .0) o (t .0 .left) (l .inv .0) (v .0 .taken) (l .inv .1) _ (v .1 .ensures)) (t .2) (t .3 ∙ v .2) (t .4 ∙ v .3) (t .5) (t .6) (t .7))
+    (ready-more (formOf (a .form)) (a .text .now) (l .nodes) (l .stack) (l .waiting) (l .count) (l .left) (g .0 .0) (g .0 .1 .0) o (t .0 .left) (v .0 .taken) (l .inv .1) _ (v .1 .ensures)) (t .2) (t .3 ∙ v .2) (t .4 ∙ v .3) (t .5) (t .6) (t .7))
     (λ v. ready-as (formOf (a .form)) (a .text .now) _ _ _ _ _ _ _ _ _ _ _ _ _
-    (ready-one (formOf (a .form)) (a .text .now) (l .nodes) (l .stack) (l .waiting) (l .count) (l .left) (g .0 .0) (g .0 .1 .0) o (t .0 .left) (l .inv .0) (v .0 .left) (l .inv .1)) (t .2) (t .3 ∙ v .1) (t .4 ∙ v .2) (t .5) (t .6) (t .7))
+    (ready-one (formOf (a .form)) (a .text .now) (l .nodes) (l .stack) (l .waiting) (l .count) (l .left) (g .0 .0) (g .0 .1 .0) o (t .0 .left) (v .0 .left) (l .inv .1)) (t .2) (t .3 ∙ v .1) (t .4 ∙ v .2) (t .5) (t .6) (t .7))
     (t .1 .came))
     u)
     (c .if1 .came)
@@ -217,7 +216,7 @@ ready c =
 open-row-requires : tie.Need-open-row-requires Inv-loop μ-loop
 open-row-requires c κs =
     let r = ready (c .before) in
-    (r .within, c .before .before .before .before .before .before .before .before .before .before .before .pre .0, r .size, r .some-kind, r .few-kinds)
+    (r .within, c .before .before .before .before .before .before .before .before .before .before .before .pre .0, r .size, r .paced, r .some-kind, r .few-kinds)
 
 loop-less : tie.Need-loop-less Inv-loop μ-loop
 loop-less c =
@@ -232,17 +231,20 @@ loop-less c =
 loop-again : tie.Need-loop-again Inv-loop μ-loop
 loop-again c =
     let a = c .before .before .before .before .before .before .before .before .before .before .before .before .before .args in
+    let l = c .before .before .before .before .before .before .before .loop in
+    let same : length (c .before .before .before .if1 .nodes) ≡ length (l .nodes) =
+    ⊎-elim (λ t. ap length (t .6) ∙ t .3 .kept .0) (λ u. ⊎-elim (λ t. ap length (t .6) ∙ t .3 .kept .0) (λ t. ap length (t .2)) u) (c .before .before .before .if1 .came) in
     let r = ready (c .before .before .before) in (
-      c .before .open-row .kept .1 .1 .1 .1 .0 ∙ r .size,
+      c .before .open-row .kept .1 .1 .1 .1 .0 ∙ same ∙ l .inv .0,
       r .places,
-      record { at = c .before .before .before .before .before .row .given .0 .0; kind = c .before .before .before .if1 .kind; old = c .before .before .before .if1 .nodes; size = r .size; going = r .going; row-is = c .before .open-row .ensures },
+      record { at = c .before .before .before .before .before .row .given .0 .0; kind = c .before .before .before .if1 .kind; old = c .before .before .before .if1 .nodes; size = r .size; paced = r .paced; going = r .going; row-is = c .before .open-row .ensures },
     )
 
 enum-known-row-2 : tie.Need-enum-known-row-2 Inv-loop μ-loop
 enum-known-row-2 c = search needs
 
 same-length-2 : tie.Need-same-length-2 Inv-loop μ-loop
-same-length-2 c = c .before .before .before .loop .inv .0 ∙ sym (c .before .before .before .before .before .before .before .before .before .pre .1)
+same-length-2 c = c .before .before .before .loop .inv .0 ∙ c .before .before .before .before .before .before .open-general .kept .1 .1 .1 .1 .0
 
 returns-2 : tie.Need-returns-2 Inv-loop μ-loop
 returns-2 c =
@@ -251,7 +253,7 @@ returns-2 c =
     let g = c .before .row2 .given in (
       shut (formOf (a .form)) (a .text .now) (l .nodes) (l .stack) (l .waiting) (l .count) (l .left) _
           (subst (Opening (formOf (a .form)) (a .text .now) (l .nodes) (l .stack) (l .waiting) (l .count) (l .left)) (g .1) (l .inv .2)),
-      l .inv .0,
+      same-length-2 c,
     )
 
 pub read-rows-spec : {M : Type 1} → statement M
