@@ -27,7 +27,7 @@ use Rattle.nodes.proofs.Signed.{natOf-known}
 use Rattle.nodes.specs.Found.{amountAt, offsetOf, planAt, testAt}
 use Rattle.nodes.specs.Letters.{planLetter}
 use Rattle.nodes.specs.Stands.{AmountStands, Forward, PlanStands, TestStands}
-use Rattle.nodes.specs.Table.{linkAt, natOf, slotAt}
+use Rattle.nodes.specs.Table.{RowIn, linkAt, natOf, slotAt}
 use Rattle.nodes.specs.declared.PlanLetter.the-variants as letter
 use Rattle.nodes.specs.declared.PlanLetter.{PlanLetter}
 use Rattle.pays.proofs.PlanNodes.{plan-asks, plan-tree, planOf, planStandsBy}
@@ -35,7 +35,7 @@ use Rattle.pays.proofs.PlanParts.{month-in}
 
 pub record ColumnNode (values nodes column : List ℤ) (r : ℕ) (w : ℤ) (left at : ℕ) (l : PlanLetter) : Type 0 where
   pub some : 0 < left
-  pub inside : at < maxNodes
+  pub inside : RowIn nodes at
   pub stands : planStandsBy nodes left at l
   pub tree : planAt natOf left nodes at ≡ planOf nodes left at l
   pub weighed : Weighed values (planOf nodes left at l) r w column

@@ -8,7 +8,7 @@ ghost use Rattle.language.specs.Calls.{signOf};
 ghost use Rattle.language.specs.Payments.Pays.{pays};
 ghost use Rattle.nodes.specs.Found.{planAt};
 ghost use Rattle.nodes.specs.Stands.{PlanStands};
-ghost use Rattle.nodes.specs.Table.{natOf, slotAt};
+ghost use Rattle.nodes.specs.Table.{RowIn, natOf, slotAt};
 ghost use Rattle.pays.specs.Parties.{PairIn};
 use amounts::wait;
 use amounts::wait::Wait;
@@ -23,16 +23,16 @@ pub mod remaining;
 
 // The penny of a `T`, times the weight, added in the month of its root.
 pub fn add_penny(
-    nodes: &[i64; 2560],
+    nodes: &&[i64],
     root: Month,
     pair: Pair,
     weight: Pence,
     column: &mut [i64],
     at: usize,
 )
-    requires { ⌜ (at < 512) × MonthIn (root .0) × PairIn (pair .p) (pair .q) × PennyFits (now column) (natOf (root .0)) (weight .0) ⌝ }
+    requires { ⌜ RowIn (now (now nodes)) at × MonthIn (root .0) × PairIn (pair .p) (pair .q) × PennyFits (now column) (natOf (root .0)) (weight .0) ⌝ }
     ensures { λ r. ⌜ Added (now (column .entry)) (now (column .exit)) (weight .0)
-        (pennyIn (signOf (pair .p) (pair .q) (natOf (slotAt (now (nodes .entry)) at 1)) (natOf (slotAt (now (nodes .entry)) at 2))) (natOf (root .0))) ⌝ }
+        (pennyIn (signOf (pair .p) (pair .q) (natOf (slotAt (now (now (nodes .entry))) at 1)) (natOf (slotAt (now (now (nodes .entry))) at 2))) (natOf (root .0))) ⌝ }
 {
     let penny = pays::transfer::penny(nodes, at, pair);
     let due = integers::times(weight, penny);
@@ -46,8 +46,8 @@ pub fn add_penny(
 // What the plan at a node pays in each month, its root in month `root`, times the weight, added to the column.
 // Below a weight that is out of range nothing is paid: acceptance bounds the weight of every payment.
 pub fn plan_column(
-    nodes: &[i64; 2560],
-    values: &[i64],
+    nodes: &&[i64],
+    values: &&[i64],
     root: Month,
     pair: Pair,
     weight: Pence,
@@ -55,10 +55,10 @@ pub fn plan_column(
     at: usize,
     left: usize,
 )
-    requires { ⌜ MonthIn (root .0) × PairIn (pair .p) (pair .q) × PlanStands left (now nodes) at
-        × Weighed (now values) (planAt natOf left (now nodes) at) (natOf (root .0)) (weight .0) (now column) ⌝ }
+    requires { ⌜ MonthIn (root .0) × PairIn (pair .p) (pair .q) × PlanStands left (now (now nodes)) at
+        × Weighed (now (now values)) (planAt natOf left (now (now nodes)) at) (natOf (root .0)) (weight .0) (now column) ⌝ }
     ensures { λ r. ⌜ Added (now (column .entry)) (now (column .exit)) (weight .0)
-        (pays (flat (now (values .entry))) (signOf (pair .p) (pair .q)) (planAt natOf left (now (nodes .entry)) at) (natOf (root .0))) ⌝ }
+        (pays (flat (now (now (values .entry)))) (signOf (pair .p) (pair .q)) (planAt natOf left (now (now (nodes .entry))) at) (natOf (root .0))) ⌝ }
 {
     let letter = rows::letter(nodes, at);
     match letter {

@@ -25,14 +25,14 @@ use Rattle.pays.proofs.rows.letter.Reads as letter-reads
 use Rattle.columns.proofs.+plan_column.{statement}
 use Rattle.columns.proofs.+plan_column.Tie.{close}
 
-abbrev μ-plan-column : Measures 3 plan-column-kinds.ps ℕ
+abbrev μ-plan-column : Measures 5 plan-column-kinds.ps ℕ
 μ-plan-column κs a = a .1 .1 .1 .1 .1 .1 .1 .0
 
-abbrev plan-column-at : ℕ → In 3 plan-column-kinds.ps
-plan-column-at t = and 3 plan-column-kinds.ps (is 3 plan-column-kinds.ps μ-plan-column t) plan-column.Pre
+abbrev plan-column-at : ℕ → In 5 plan-column-kinds.ps
+plan-column-at t = and 5 plan-column-kinds.ps (is 5 plan-column-kinds.ps μ-plan-column t) plan-column.Pre
 
-abbrev plan-column-below : ℕ → In 3 plan-column-kinds.ps
-plan-column-below t = and 3 plan-column-kinds.ps (falls 3 plan-column-kinds.ps _<_ μ-plan-column t) plan-column.Pre
+abbrev plan-column-below : ℕ → In 5 plan-column-kinds.ps
+plan-column-below t = and 5 plan-column-kinds.ps (falls 5 plan-column-kinds.ps _<_ μ-plan-column t) plan-column.Pre
 
 abbrev plan-column-calls : ℕ → plan-column-lts.Claims
 plan-column-calls t = (letter-reads.Asked, letter-reads.Learnt, add-penny-reads.Asked, add-penny-reads.Learnt, amount-value-reads.Asked, amount-value-reads.Learnt, product-reads.Asked, product-reads.Learnt, link-reads.Asked, link-reads.Learnt, plan-column-below t, plan-column.Post, delay-reads.Asked, delay-reads.Learnt, later-reads.Asked, later-reads.Learnt, wait-for-reads.Asked, wait-for-reads.Learnt)
@@ -52,7 +52,7 @@ plan-column-add-amount-value : (t : ℕ) → plan-column-lts.Need-add-amount-val
 plan-column-add-amount-value t c =
     let h = c .before .before .before .pre .1 in
     let n = node.column-node (h .2) (h .3) (c .before .before .letter .ensures) (c .enum-told3 .given .1) in
-    record { fits = omega (arith, n .inside) }
+    record { fits = omega (arith, n .inside .0) }
 
 plan-column-amount-value-requires : (t : ℕ) → plan-column-lts.Need-amount-value-requires (plan-column-calls t) (plan-column-at t) plan-column.Post
 plan-column-amount-value-requires t c κs =
@@ -101,7 +101,7 @@ plan-column-add-plan-column : (t : ℕ) → plan-column-lts.Need-add-plan-column
 plan-column-add-plan-column t c =
     let h = c .before .before .before .before .before .before .pre .1 in
     let n = node.column-node (h .2) (h .3) (c .before .before .before .before .before .letter .ensures) (c .before .before .before .enum-told5 .given .1) in
-    record { fits = omega (arith, n .inside) }
+    record { fits = omega (arith, n .inside .0) }
 
 plan-column-sub-plan-column-2 : (t : ℕ) → plan-column-lts.Need-sub-plan-column-2 (plan-column-calls t) (plan-column-at t) plan-column.Post
 plan-column-sub-plan-column-2 t c =
@@ -120,7 +120,7 @@ plan-column-add-plan-column-2 : (t : ℕ) → plan-column-lts.Need-add-plan-colu
 plan-column-add-plan-column-2 t c =
     let h = c .before .before .before .before .pre .1 in
     let n = node.column-node (h .2) (h .3) (c .before .before .before .letter .ensures) (c .before .enum-told6 .given .1) in
-    record { fits = omega (arith, n .inside) }
+    record { fits = omega (arith, n .inside .0) }
 
 plan-column-sub-plan-column-3 : (t : ℕ) → plan-column-lts.Need-sub-plan-column-3 (plan-column-calls t) (plan-column-at t) plan-column.Post
 plan-column-sub-plan-column-3 t c =
@@ -164,7 +164,7 @@ plan-column-add-wait-for : (t : ℕ) → plan-column-lts.Need-add-wait-for (plan
 plan-column-add-wait-for t c =
     let h = c .before .before .before .before .pre .1 in
     let n = node.column-node (h .2) (h .3) (c .before .before .before .letter .ensures) (c .before .enum-told7 .given .1) in
-    record { fits = omega (arith, n .inside) }
+    record { fits = omega (arith, n .inside .0) }
 
 plan-column-wait-for-requires : (t : ℕ) → plan-column-lts.Need-wait-for-requires (plan-column-calls t) (plan-column-at t) plan-column.Post
 plan-column-wait-for-requires t c κs =
