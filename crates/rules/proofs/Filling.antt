@@ -1,7 +1,7 @@
 -- A plan that stands in the table: found there, and filled there.
 use Prim.Native.Nat.{_*_, _≤_, ℕ}
 use lib.IntN.{ℤ}
-use lib.ListN.{drop, take, take-append-drop}
+use lib.ListN.{drop, length, length-append, take, take-append-drop}
 use lib.Seq.{take-at}
 use mathlib.Core.Bool.{true}
 use mathlib.Core.List.{List, _++_}
@@ -9,7 +9,7 @@ use mathlib.Core.Path.{_∙_, _≡_, ap, subst, sym}
 use native.Mathlib.Omega.{arith}
 use Rattle.language.proofs.Rules.Tables.{setting-small}
 use Rattle.language.proofs.Text.Form.{formed-map, nodes-map}
-use Rattle.language.specs.Limits.{maxMonths, maxNodes}
+use Rattle.language.specs.Limits.{maxMonths}
 use Rattle.language.specs.Rules.Settings.{allSet, closed, delayOf, fill}
 use Rattle.language.specs.Rules.Table.{settingAt, settingsOk}
 use Rattle.language.specs.Text.Form.{Formed, delayInForm, filledInForm}
@@ -37,8 +37,8 @@ module _ {nodes : List ℤ} {count : ℕ} {x : Plan Delay} (s : Standing nodes c
   pub whole : nodes ≡ rows planForm (planTrees x end) ++ drop (5 * count) nodes
   whole = sym (take-append-drop (5 * count) nodes) ∙ ap (λ y. y ++ drop (5 * count) nodes) (s .lies)
 
-  pub standing-rows : 5 * count ≤ 5 * maxNodes
-  standing-rows = omega (arith, s .counted, plan-rows x (s .formed))
+  pub standing-rows : 5 * count ≤ length nodes
+  standing-rows = omega (arith, ap length whole, length-append (rows planForm (planTrees x end)) (drop (5 * count) nodes), rows-length planForm (planTrees x end), s .counted)
 
   pub laid : Laid planForm nodes 0 (planTrees x end)
   laid = record { rest = drop (5 * count) nodes; is = whole; room = omega (arith, plan-rows x (s .formed)) }

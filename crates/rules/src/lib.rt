@@ -1,5 +1,7 @@
 // The rules for a plan, in document 01's order.
 ghost use mathlib.Core.Path.{_≡_};
+ghost use Prim.Native.Nat.{_≤_};
+ghost use lib.ListN.{length};
 ghost use Rattle.language.specs.Calls.{checkCall};
 ghost use Rattle.measures.specs.Ready.{PlanReady};
 ghost use Rattle.nodes.specs.Found.{planAt};
@@ -8,6 +10,7 @@ ghost use Rattle.rules.specs.Accepting.{AcceptIs};
 ghost use Rattle.rules.specs.Answers.{Natural, checkingAnswer, givenOf};
 ghost use Rattle.rules.specs.Measured.{InTable, measuredBy};
 ghost use Rattle.rules.specs.Standing.{Stands};
+ghost use Rattle.text.specs.Room.{Roomy};
 use integers::Month;
 use integers::Pence;
 use measures::reads::Reach;
@@ -22,11 +25,11 @@ pub enum Checking {
 }
 
 // Length 10, reads 11, known in time 7, magnitude 6.
-pub fn measure(nodes: &[i64; 2560], today: Month, reach: Reach, bounds: &[i64]) -> Checking
+pub fn measure(nodes: &[i64], today: Month, reach: Reach, bounds: &[i64]) -> Checking
     requires { ⌜ PlanReady 32 (now nodes) 0 × InTable (today .0) (reach .h) (reach .f) (reach .labels) (now bounds) ⌝ }
     ensures { λ r. ⌜ (checkingAnswer r ≡ measuredBy (reach .h) (reach .f) (now (bounds .entry)) (natOf (today .0)) (planAt natOf 32 (now (nodes .entry)) 0)) × Natural r ⌝ }
 {
-    let m = measures::plan::measure_plan(nodes, 0, 32, today, today, reach, bounds);
+    let m = measures::plan::measure_plan(&nodes, 0, 32, today, today, reach, bounds);
     let length = Month(m.length as i64);
     let last = integers::later(today, length);
     if reach.f < last.0 {
@@ -49,7 +52,7 @@ pub fn measure(nodes: &[i64; 2560], today: Month, reach: Reach, bounds: &[i64]) 
 
 // A plan that was read: 9, 12, 8, and the rules. Its open settings are filled in the table.
 pub fn accept(
-    nodes: &mut [i64; 2560],
+    nodes: &mut [i64],
     count: usize,
     days: &[i64],
     span: Span,
@@ -92,6 +95,89 @@ pub fn accept(
     }
 }
 
+// The call check with a table lent for the text's nodes.
+fn check_in(
+    text: &[u8],
+    nodes: &mut [i64],
+    days: &[i64],
+    span: Span,
+    factors: &[i64],
+    bounds: &[i64],
+    values: &[i64],
+    today: Month,
+) -> Checking
+    requires { ⌜ Roomy (now text) (now nodes) ⌝ }
+    ensures { λ r. ⌜ (checkingAnswer r ≡ checkCall (now (text .entry))
+        (givenOf (now (days .entry)) (span .h) (span .f) (now (factors .entry)) (now (bounds .entry)) (now (values .entry))) (today .0)) × Natural r ⌝ }
+{
+    let reading = text::read_plan(text, nodes);
+    match reading {
+        Reading::Nodes(count) => accept(
+            nodes,
+            count,
+            days,
+            span,
+            factors,
+            bounds,
+            values,
+            today,
+            true,
+        ),
+        Reading::Refused(refusal) => Checking::Refused(refusal),
+    }
+}
+
+// A text of few bytes has few nodes, and a short table is cleared sooner: 64 rows, 192 or all 512.
+fn brief_check(
+    text: &[u8],
+    days: &[i64],
+    span: Span,
+    factors: &[i64],
+    bounds: &[i64],
+    values: &[i64],
+    today: Month,
+) -> Checking
+    requires { ⌜ length (now text) ≤ 128 ⌝ }
+    ensures { λ r. ⌜ (checkingAnswer r ≡ checkCall (now (text .entry))
+        (givenOf (now (days .entry)) (span .h) (span .f) (now (factors .entry)) (now (bounds .entry)) (now (values .entry))) (today .0)) × Natural r ⌝ }
+{
+    let mut nodes = [0i64; 320];
+    check_in(text, &mut nodes, days, span, factors, bounds, values, today)
+}
+
+fn short_check(
+    text: &[u8],
+    days: &[i64],
+    span: Span,
+    factors: &[i64],
+    bounds: &[i64],
+    values: &[i64],
+    today: Month,
+) -> Checking
+    requires { ⌜ length (now text) ≤ 384 ⌝ }
+    ensures { λ r. ⌜ (checkingAnswer r ≡ checkCall (now (text .entry))
+        (givenOf (now (days .entry)) (span .h) (span .f) (now (factors .entry)) (now (bounds .entry)) (now (values .entry))) (today .0)) × Natural r ⌝ }
+{
+    let mut nodes = [0i64; 960];
+    check_in(text, &mut nodes, days, span, factors, bounds, values, today)
+}
+
+fn long_check(
+    text: &[u8],
+    days: &[i64],
+    span: Span,
+    factors: &[i64],
+    bounds: &[i64],
+    values: &[i64],
+    today: Month,
+) -> Checking
+    ensures { λ r. ⌜ (checkingAnswer r ≡ checkCall (now (text .entry))
+        (givenOf (now (days .entry)) (span .h) (span .f) (now (factors .entry)) (now (bounds .entry)) (now (values .entry))) (today .0)) × Natural r ⌝ }
+{
+    let mut nodes = [0i64; 2560];
+    check_in(text, &mut nodes, days, span, factors, bounds, values, today)
+}
+
 // Whether a plan is accepted with its root in month today: its length and magnitude, or the refusal.
 pub fn check(
     text: &[u8],
@@ -106,20 +192,12 @@ pub fn check(
     ensures { λ r. ⌜ (checkingAnswer r ≡ checkCall (now (text .entry))
         (givenOf (now (days .entry)) h f (now (factors .entry)) (now (bounds .entry)) (now (values .entry))) today) × Natural r ⌝ }
 {
-    let mut nodes = [0i64; 2560];
-    let reading = text::read_plan(text, &mut nodes);
-    match reading {
-        Reading::Nodes(count) => accept(
-            &mut nodes,
-            count,
-            days,
-            Span { h: h, f: f },
-            factors,
-            bounds,
-            values,
-            Month(today),
-            true,
-        ),
-        Reading::Refused(refusal) => Checking::Refused(refusal),
+    let span = Span { h: h, f: f };
+    if text.len() <= 128 {
+        return brief_check(text, days, span, factors, bounds, values, Month(today));
     }
+    if text.len() <= 384 {
+        return short_check(text, days, span, factors, bounds, values, Month(today));
+    }
+    long_check(text, days, span, factors, bounds, values, Month(today))
 }

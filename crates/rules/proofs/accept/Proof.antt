@@ -35,32 +35,13 @@ fill-rows-requires : tie.Need-fill-rows-requires
 fill-rows-requires c κs =
     let s = c .before .before .before .before .before .before .before .before .before in
     let a = s .args in
-    let e : length (a .nodes .now) ≡ 2560 = search needs in
-    (omega (arith, standing-rows (s .pre .standing)), sym (c .before .before .settings-ok .ensures) ∙ c .before .if3 .taken, standing-skips (s .pre .standing))
+    (standing-rows (s .pre .standing), sym (c .before .before .settings-ok .ensures) ∙ c .before .if3 .taken, standing-skips (s .pre .standing))
 
 enum-told : tie.Need-enum-told
 enum-told c = search needs
 
 measure-requires : tie.Need-measure-requires
 measure-requires c κs =
-    let s = c .before .before .before .before .before .before .before .before .before .before .before .before .before .before in
-    let a = s .args in
-    let f : SFits w64 (a .span .f) = search needs in
-    let h : SFits w64 (a .span .h) = search needs in
-    let d : SFits w64 (a .today .0) = search needs in
-    let m = sym (ap (λ b. b && a .caller) (c .before .before .before .before .before .before .before .before .before .month-ok .ensures ∙ ap₂ (λ y z. between (pos 0) y z) (toZ-ofZ f) (toZ-ofZ d))) ∙ c .before .before .before .before .before .before .before .before .if2 .taken in
-    let t = sym (c .before .before .before .before .before .before .before .before .before .before .before .before .before .table-ok .ensures) ∙ c .before .before .before .before .before .before .before .before .before .before .before .before .if1 .taken in
-    let e = sym (c .before .before .before .before .before .before .before .settings-ok .ensures) ∙ c .before .before .before .before .before .before .if3 .taken in
-    let u = subst (FillIs (a .days .now) (a .count) (a .nodes .now) (c .before .before .before .before .fill-rows .last .0)) (c .before .before .enum-told .given .1) (c .before .before .before .before .fill-rows .ensures) in (
-      measure-ready (a .days .now) (a .span .h) (a .span .f) (a .factors .now) (a .bounds .now) (a .values .now) (a .today .0) (a .caller) (a .count) (a .nodes .now) (c .before .before .before .before .fill-rows .last .0) t m e u (s .pre),
-      rw (toZ-ofZ f, toZ-ofZ h) (in-table (a .days .now) (a .span .h) (a .span .f) (a .factors .now) (a .bounds .now) (a .values .now) (a .today .0) (a .caller) (s .pre .plan) (length (a .bounds .now)) refl t (both-true _ (a .caller) m .0)),
-    )
-
-enum-told-2 : tie.Need-enum-told-2
-enum-told-2 c = search needs
-
-returns : tie.Need-returns
-returns c =
     let s = c .before .before .before .before .before .before .before .before .before .before .before .before .before .before .before in
     let a = s .args in
     let f : SFits w64 (a .span .f) = search needs in
@@ -69,22 +50,46 @@ returns c =
     let m = sym (ap (λ b. b && a .caller) (c .before .before .before .before .before .before .before .before .before .before .month-ok .ensures ∙ ap₂ (λ y z. between (pos 0) y z) (toZ-ofZ f) (toZ-ofZ d))) ∙ c .before .before .before .before .before .before .before .before .before .if2 .taken in
     let t = sym (c .before .before .before .before .before .before .before .before .before .before .before .before .before .before .table-ok .ensures) ∙ c .before .before .before .before .before .before .before .before .before .before .before .before .before .if1 .taken in
     let e = sym (c .before .before .before .before .before .before .before .before .settings-ok .ensures) ∙ c .before .before .before .before .before .before .before .if3 .taken in
-    let u = subst (FillIs (a .days .now) (a .count) (a .nodes .now) (c .before .before .before .before .before .fill-rows .last .0)) (c .before .before .before .enum-told .given .1) (c .before .before .before .before .before .fill-rows .ensures) in
-    accept-is (a .days .now) (a .span .h) (a .span .f) (a .factors .now) (a .bounds .now) (a .values .now) (a .today .0) (a .caller) (a .count) (a .nodes .now) (c .before .before .before .before .before .fill-rows .last .0) t m e u
-    (c .measure .ensures .0 ∙ ap₂ (λ y z. measuredBy y z (a .bounds .now) (natOf (a .today .0)) (planAt natOf 32 (c .before .before .before .before .before .fill-rows .last .0) 0)) (toZ-ofZ h) (toZ-ofZ f))
+    let u = subst (FillIs (a .days .now) (a .count) (a .nodes .now) (c .before .before .before .before .before .fill-rows .last .0)) (c .before .before .enum-told .given .1) (c .before .before .before .before .before .fill-rows .ensures) in (
+      measure-ready (a .days .now) (a .span .h) (a .span .f) (a .factors .now) (a .bounds .now) (a .values .now) (a .today .0) (a .caller) (a .count) (a .nodes .now) (c .before .before .before .before .before .fill-rows .last .0) t m e u (s .pre),
+      rw (toZ-ofZ f, toZ-ofZ h) (in-table (a .days .now) (a .span .h) (a .span .f) (a .factors .now) (a .bounds .now) (a .values .now) (a .today .0) (a .caller) (s .pre .plan) (length (a .bounds .now)) refl t (both-true _ (a .caller) m .0)),
+    )
+
+enum-told-2 : tie.Need-enum-told-2
+enum-told-2 c = search needs
+
+same-length : tie.Need-same-length
+same-length c = search needs
+
+returns : tie.Need-returns
+returns c =
+    let s = c .before .before .before .before .before .before .before .before .before .before .before .before .before .before .before .before in
+    let a = s .args in
+    let f : SFits w64 (a .span .f) = search needs in
+    let h : SFits w64 (a .span .h) = search needs in
+    let d : SFits w64 (a .today .0) = search needs in
+    let m = sym (ap (λ b. b && a .caller) (c .before .before .before .before .before .before .before .before .before .before .before .month-ok .ensures ∙ ap₂ (λ y z. between (pos 0) y z) (toZ-ofZ f) (toZ-ofZ d))) ∙ c .before .before .before .before .before .before .before .before .before .before .if2 .taken in
+    let t = sym (c .before .before .before .before .before .before .before .before .before .before .before .before .before .before .before .table-ok .ensures) ∙ c .before .before .before .before .before .before .before .before .before .before .before .before .before .before .if1 .taken in
+    let e = sym (c .before .before .before .before .before .before .before .before .before .settings-ok .ensures) ∙ c .before .before .before .before .before .before .before .before .if3 .taken in
+    let u = subst (FillIs (a .days .now) (a .count) (a .nodes .now) (c .before .before .before .before .before .before .fill-rows .last .0)) (c .before .before .before .enum-told .given .1) (c .before .before .before .before .before .before .fill-rows .ensures) in
+    accept-is (a .days .now) (a .span .h) (a .span .f) (a .factors .now) (a .bounds .now) (a .values .now) (a .today .0) (a .caller) (a .count) (a .nodes .now) (c .before .before .before .before .before .before .fill-rows .last .0) t m e u
+    (c .measure .ensures .0 ∙ ap₂ (λ y z. measuredBy y z (a .bounds .now) (natOf (a .today .0)) (planAt natOf 32 (c .before .before .before .before .before .before .fill-rows .last .0) 0)) (toZ-ofZ h) (toZ-ofZ f))
     (c .measure .ensures .1)
+
+same-length-2 : tie.Need-same-length-2
+same-length-2 c = search needs
 
 returns-2 : tie.Need-returns-2
 returns-2 c =
-    let s = c .before .before .before .before .before .before .before .before .before .before .before .before in
+    let s = c .before .before .before .before .before .before .before .before .before .before .before .before .before in
     let a = s .args in
     let f : SFits w64 (a .span .f) = search needs in
     let d : SFits w64 (a .today .0) = search needs in
-    let m = sym (ap (λ b. b && a .caller) (c .before .before .before .before .before .before .before .month-ok .ensures ∙ ap₂ (λ y z. between (pos 0) y z) (toZ-ofZ f) (toZ-ofZ d))) ∙ c .before .before .before .before .before .before .if2 .taken in
-    let t = sym (c .before .before .before .before .before .before .before .before .before .before .before .table-ok .ensures) ∙ c .before .before .before .before .before .before .before .before .before .before .if1 .taken in
-    let e = sym (c .before .before .before .before .before .settings-ok .ensures) ∙ c .before .before .before .before .if3 .taken in
-    let u = subst (FillIs (a .days .now) (a .count) (a .nodes .now) (c .before .before .fill-rows .last .0)) (c .enum-told2 .given .1) (c .before .before .fill-rows .ensures) in
-    refused-is (givenOf (a .days .now) (a .span .h) (a .span .f) (a .factors .now) (a .bounds .now) (a .values .now)) (a .today .0) (a .caller) (a .count) (a .nodes .now) (c .before .before .fill-rows .last .0) Settings (λ x y. unset (a .days .now) (a .span .h) (a .span .f) (a .factors .now) (a .bounds .now) (a .values .now) (a .today .0) (a .caller) x t m e (sym (set-is y (a .days .now)) ∙ u))
+    let m = sym (ap (λ b. b && a .caller) (c .before .before .before .before .before .before .before .before .month-ok .ensures ∙ ap₂ (λ y z. between (pos 0) y z) (toZ-ofZ f) (toZ-ofZ d))) ∙ c .before .before .before .before .before .before .before .if2 .taken in
+    let t = sym (c .before .before .before .before .before .before .before .before .before .before .before .before .table-ok .ensures) ∙ c .before .before .before .before .before .before .before .before .before .before .before .if1 .taken in
+    let e = sym (c .before .before .before .before .before .before .settings-ok .ensures) ∙ c .before .before .before .before .before .if3 .taken in
+    let u = subst (FillIs (a .days .now) (a .count) (a .nodes .now) (c .before .before .before .fill-rows .last .0)) (c .enum-told2 .given .1) (c .before .before .before .fill-rows .ensures) in
+    refused-is (givenOf (a .days .now) (a .span .h) (a .span .f) (a .factors .now) (a .bounds .now) (a .values .now)) (a .today .0) (a .caller) (a .count) (a .nodes .now) (c .before .before .before .fill-rows .last .0) Settings (λ x y. unset (a .days .now) (a .span .h) (a .span .f) (a .factors .now) (a .bounds .now) (a .values .now) (a .today .0) (a .caller) x t m e (sym (set-is y (a .days .now)) ∙ u))
 
 returns-3 : tie.Need-returns-3
 returns-3 c =
@@ -123,7 +128,9 @@ accept-spec =
     enum-told
     measure-requires
     enum-told-2
+    same-length
     returns
+    same-length-2
     returns-2
     returns-3
     returns-4

@@ -1,47 +1,31 @@
 use borrow.Author.Needs.{needs}
-use mathlib.Core.Path.{subst}
 use mir.Facts.{toZ-ofZ}
-use Rattle.language.specs.Text.Letters.{planForm}
-use Rattle.language.specs.Text.Reader.{readText}
-use Rattle.rules.proofs.Checks.{check-accepts, check-refuses, read-stands}
-use Rattle.rules.proofs.check.Lts as lts
-use Rattle.rules.proofs.check.Reads as reads
 use Rattle.rules.proofs.check.Statement.{statement}
 use Rattle.rules.proofs.check.Tie as tie
-use Rattle.rules.specs.Answers.{givenOf}
-use Rattle.text.specs.ReadInto.{ReadInto}
 
-slice-aggregate-read-plan : tie.Need-slice-aggregate-read-plan
-slice-aggregate-read-plan c = search needs
-
-read-plan-requires : tie.Need-read-plan-requires
-read-plan-requires c κs = search needs
-
-enum-known-reading : tie.Need-enum-known-reading
-enum-known-reading c = search needs
-
-accept-requires : tie.Need-accept-requires
-accept-requires c κs =
-    let s = c .before .before .before .before .before .before .before .before in
-    read-stands (s .args .text .now) _ _ (subst (ReadInto planForm (readText planForm (s .args .text .now)) (c .before .before .before .before .before .read-plan .last .1 .0)) (c .before .before .reading .given .1) (c .before .before .before .before .before .read-plan .ensures .0))
-
-enum-known-reading-2 : tie.Need-enum-known-reading-2
-enum-known-reading-2 c = search needs
+brief-check-requires : tie.Need-brief-check-requires
+brief-check-requires c κs = search needs
 
 returns : tie.Need-returns
 returns c =
-    let s = c .before .before .before .before .before .before .before .before .before in
-    let a = s .args in
-    let r = subst (ReadInto planForm (readText planForm (a .text .now)) (c .before .before .before .before .before .before .read-plan .last .1 .0)) (c .before .before .before .reading .given .1) (c .before .before .before .before .before .before .read-plan .ensures .0) in
-    check-accepts (a .text .now) (c .before .before .before .before .before .before .read-plan .last .1 .0) _ r (givenOf (a .days .now) (a .h) (a .f) (a .factors .now) (a .bounds .now) (a .values .now)) (a .today)
-    (rw (toZ-ofZ (s .fits .h), toZ-ofZ (s .fits .f), toZ-ofZ (s .fits .today)) at (c .accept .ensures))
+    let f = c .before .before .before .fits in
+    rw (toZ-ofZ (f .h), toZ-ofZ (f .f), toZ-ofZ (f .today)) at (c .brief-check .ensures)
+
+short-check-requires : tie.Need-short-check-requires
+short-check-requires c κs = search needs
 
 returns-2 : tie.Need-returns-2
 returns-2 c =
-    let a = c .before .before .before .before .before .before .before .args in
-    check-refuses (a .text .now) (givenOf (a .days .now) (a .h) (a .f) (a .factors .now) (a .bounds .now) (a .values .now)) (a .today) _
-    (subst (ReadInto planForm (readText planForm (a .text .now)) (c .before .before .before .before .read-plan .last .1 .0)) (c .before .reading2 .given .1) (c .before .before .before .before .read-plan .ensures .0))
+    let f = c .before .before .before .before .fits in
+    rw (toZ-ofZ (f .h), toZ-ofZ (f .f), toZ-ofZ (f .today)) at (c .short-check .ensures)
+
+long-check-requires : tie.Need-long-check-requires
+long-check-requires c κs = search needs
+
+returns-3 : tie.Need-returns-3
+returns-3 c =
+    let f = c .before .before .before .before .fits in
+    rw (toZ-ofZ (f .h), toZ-ofZ (f .f), toZ-ofZ (f .today)) at (c .long-check .ensures)
 
 pub check-spec : {M : Type 1} → statement M
-check-spec =
-    tie.close (tie.spec slice-aggregate-read-plan read-plan-requires enum-known-reading accept-requires enum-known-reading-2 returns returns-2)
+check-spec = tie.close (tie.spec brief-check-requires returns short-check-requires returns-2 long-check-requires returns-3)

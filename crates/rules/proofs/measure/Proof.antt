@@ -14,26 +14,26 @@ use Rattle.rules.proofs.measure.Statement.{statement}
 use Rattle.rules.proofs.measure.Tie as tie
 
 measure-plan-requires : tie.Need-measure-plan-requires
-measure-plan-requires c κs = (c .pre .0, in-reach (c .args .today) (c .args .reach) (c .args .bounds .now) (c .pre .1), c .pre .1 .bounded)
+measure-plan-requires c κs = (c .before .pre .0, in-reach (c .before .args .today) (c .before .args .reach) (c .before .args .bounds .now) (c .before .pre .1), c .before .pre .1 .bounded)
 
-cast-t8 : tie.Need-cast-t8
-cast-t8 c =
-    let s = c .before .before in
+cast-t10 : tie.Need-cast-t10
+cast-t10 c =
+    let s = c .before .before .before in
     let k = c .before .measure-plan .ensures in
     plain-fits (omega (arith, k .length, length-bound (s .pre .0)))
 
 later-requires : tie.Need-later-requires
 later-requires c κs =
-    let s = c .before .before in
+    let s = c .before .before .before in
     let k = c .before .measure-plan .ensures in
     let b = length-bound (s .pre .0) in
     (few-months (s .args .today .0) (s .args .reach) (s .args .bounds .now) (s .pre .1), few (plain-read (omega (arith, k .length, b)) ∙ ap pos (k .length)) (omega (arith, b)))
 
 returns : tie.Need-returns
 returns c =
-    let s = c .before .before .before .before .before .before .before .before in
+    let s = c .before .before .before .before .before .before .before .before .before in
     let k = c .before .before .before .before .before .before .before .measure-plan .ensures in
-    let x = planAt natOf 32 (s .args .nodes .now) 0 in
+    let x = planAt natOf 32 (s .args .t1 .now) 0 in
     let e = plain-read (omega (arith, k .length, length-bound (s .pre .0))) ∙ ap pos (k .length) in
     let f : SFits w64 (s .args .reach .f) = search needs in
     let g : SFits w64 (c .before .before .before .before .before .later .result .0) = search needs in
@@ -43,14 +43,14 @@ returns c =
 is-within-requires : tie.Need-is-within-requires
 is-within-requires c κs = search needs
 
-cast-t16 : tie.Need-cast-t16
-cast-t16 c = plain-fits (leb-true _ _ (sym (c .before .before .is-within .ensures) ∙ c .before .if4 .taken))
+cast-t18 : tie.Need-cast-t18
+cast-t18 c = plain-fits (leb-true _ _ (sym (c .before .before .is-within .ensures) ∙ c .before .if4 .taken))
 
 returns-2 : tie.Need-returns-2
 returns-2 c =
-    let s = c .before .before .before .before .before .before .before .before .before .before .before .before .before in
+    let s = c .before .before .before .before .before .before .before .before .before .before .before .before .before .before in
     let k = c .before .before .before .before .before .before .before .before .before .before .before .before .measure-plan .ensures in
-    let x = planAt natOf 32 (s .args .nodes .now) 0 in
+    let x = planAt natOf 32 (s .args .t1 .now) 0 in
     let e = plain-read (omega (arith, k .length, length-bound (s .pre .0))) ∙ ap pos (k .length) in
     let f : SFits w64 (s .args .reach .f) = search needs in
     let g : SFits w64 (c .before .before .before .before .before .before .before .before .before .before .later .result .0) = search needs in
@@ -60,9 +60,9 @@ returns-2 c =
 
 returns-3 : tie.Need-returns-3
 returns-3 c =
-    let s = c .before .before .before .before .before .before .before .before .before .before .before .before in
+    let s = c .before .before .before .before .before .before .before .before .before .before .before .before .before in
     let k = c .before .before .before .before .before .before .before .before .before .before .before .measure-plan .ensures in
-    let x = planAt natOf 32 (s .args .nodes .now) 0 in
+    let x = planAt natOf 32 (s .args .t1 .now) 0 in
     let e = plain-read (omega (arith, k .length, length-bound (s .pre .0))) ∙ ap pos (k .length) in
     let f : SFits w64 (s .args .reach .f) = search needs in
     let g : SFits w64 (c .before .before .before .before .before .before .before .before .before .later .result .0) = search needs in
@@ -72,9 +72,9 @@ returns-3 c =
 
 returns-4 : tie.Need-returns-4
 returns-4 c =
-    let s = c .before .before .before .before .before .before .before .before .before .before in
+    let s = c .before .before .before .before .before .before .before .before .before .before .before in
     let k = c .before .before .before .before .before .before .before .before .before .measure-plan .ensures in
-    let x = planAt natOf 32 (s .args .nodes .now) 0 in
+    let x = planAt natOf 32 (s .args .t1 .now) 0 in
     let e = plain-read (omega (arith, k .length, length-bound (s .pre .0))) ∙ ap pos (k .length) in
     let f : SFits w64 (s .args .reach .f) = search needs in
     let g : SFits w64 (c .before .before .before .before .before .before .before .later .result .0) = search needs in
@@ -83,9 +83,9 @@ returns-4 c =
 
 returns-5 : tie.Need-returns-5
 returns-5 c =
-    let s = c .before .before .before .before .before .before .before .before .before in
+    let s = c .before .before .before .before .before .before .before .before .before .before in
     let k = c .before .before .before .before .before .before .before .before .measure-plan .ensures in
-    let x = planAt natOf 32 (s .args .nodes .now) 0 in
+    let x = planAt natOf 32 (s .args .t1 .now) 0 in
     let e = plain-read (omega (arith, k .length, length-bound (s .pre .0))) ∙ ap pos (k .length) in
     let f : SFits w64 (s .args .reach .f) = search needs in
     let g : SFits w64 (c .before .before .before .before .before .before .later .result .0) = search needs in
@@ -97,11 +97,11 @@ measure-spec =
     tie.close
     (tie.spec
     measure-plan-requires
-    cast-t8
+    cast-t10
     later-requires
     returns
     is-within-requires
-    cast-t16
+    cast-t18
     returns-2
     returns-3
     returns-4
