@@ -1,6 +1,7 @@
 -- The children of a node that lies in the table: each lies from one of the node's places up to the next.
-use Prim.Native.Nat.{_+_, ℕ}
+use Prim.Native.Nat.{_*_, _+_, _<_, _≤_, ℕ}
 use lib.IntN.{pos, ℤ}
+use lib.ListN.{drop, length, length-append, length-drop}
 use mathlib.Core.List.{List, [], _++_, append-assoc, append-nil}
 use mathlib.Core.Path.{_∙_, _≡_, ap, refl, subst, sym}
 use native.Mathlib.Omega.{arith}
@@ -9,13 +10,19 @@ use Rattle.copies.specs.Lies.{Lies}
 use Rattle.language.specs.Text.Classes.{Field}
 use Rattle.language.specs.Text.Letters.{Letter, PlanLetter, planForm, rowOf}
 use Rattle.language.specs.Text.Reader.{Trees, end, node}
-use Rattle.nodes.proofs.Laid.{IsNode, Laid, laid-behind, laid-child, laid-slot, link-is}
+use Rattle.nodes.proofs.Laid.{IsNode, Laid, laid-behind, laid-child, laid-slot, link-is, rows-length}
 use Rattle.nodes.specs.Rows.{behindFirst, countOf, firstCount, lastSlots, linkTo, rowFor, rows, slotsOf}
 use Rattle.nodes.specs.Stands.{Forward}
 use Rattle.nodes.specs.Table.{linkAt, slotAt}
 
 pub laid : {nodes : List ℤ} {from to : ℕ} {t : Trees PlanLetter} → Lies nodes from to t → Laid planForm nodes from t
 laid h = record { rest = h .rest; is = h .is; room = omega (arith, h .ends, h .room) }
+
+-- the table reaches as far as they lie
+pub lying-length : {nodes : List ℤ} {from to : ℕ} {t : Trees PlanLetter} → from < to → Lies nodes from to t → 5 * to ≤ length nodes
+lying-length {nodes} {from} {t = t} s h =
+    let n : length (drop (from * 5) nodes) ≡ length (rows planForm t ++ h .rest) = ap length (h .is) in
+    omega (arith, n, length-drop (from * 5) nodes, length-append (rows planForm t) (h .rest), rows-length planForm t, h .ends)
 
 nothing-left : countOf {P = PlanLetter} end ≡ 0
 unfolding countOf

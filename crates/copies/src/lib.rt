@@ -1,10 +1,10 @@
 // Rows appended to a table.
-ghost use Prim.Native.Nat.{_*_, _+_, _<_, _≤_};
+ghost use Prim.Native.Nat.{_*_, _+_, _≤_};
 ghost use lib.IntN.{pos};
 ghost use lib.ListN.{length};
 ghost use mathlib.Core.List.{[], _∷_};
 ghost use Rattle.copies.specs.Appended.{Appended};
-ghost use Rattle.nodes.specs.Table.{slotAt};
+ghost use Rattle.nodes.specs.Table.{RowIn, slotAt};
 
 pub struct Row {
     pub letter: i64,
@@ -51,9 +51,9 @@ pub fn put_letter(out: &mut [i64], count: usize, letter: i64) -> usize
 }
 
 // A row of a plan as it stands, without its links.
-pub fn copy_row(nodes: &[i64; 2560], out: &mut [i64], count: usize, at: usize) -> usize
-    requires { ⌜ (at < 512) × (5 * count + 5 ≤ length (now out)) ⌝ }
-    ensures { λ r. ⌜ Appended (now (out .entry)) (now (out .exit)) count r (slotAt (now (nodes .entry)) at 0 ∷ slotAt (now (nodes .entry)) at 1 ∷ slotAt (now (nodes .entry)) at 2 ∷ pos 0 ∷ pos 0 ∷ []) ⌝ }
+pub fn copy_row(nodes: &&[i64], out: &mut [i64], count: usize, at: usize) -> usize
+    requires { ⌜ RowIn (now (now nodes)) at × (5 * count + 5 ≤ length (now out)) ⌝ }
+    ensures { λ r. ⌜ Appended (now (out .entry)) (now (out .exit)) count r (slotAt (now (now (nodes .entry))) at 0 ∷ slotAt (now (now (nodes .entry))) at 1 ∷ slotAt (now (now (nodes .entry))) at 2 ∷ pos 0 ∷ pos 0 ∷ []) ⌝ }
 {
     put_row(
         out,
