@@ -1,13 +1,14 @@
 -- A plan that can be compiled where it stands: what its letter tells of it, and its parts, which can be compiled too.
-use Prim.Native.Nat.{_+_, _-_, _<_, _≤_, ℕ}
+use Prim.Native.Nat.{_*_, _+_, _-_, _<_, _≤_, ℕ}
 use lib.IntN.{natAbs, pos, ℤ}
+use lib.ListN.{length}
 use mathlib.Core.List.{List, [], _∷_}
 use mathlib.Core.Path.{_∙_, _≡_, ap, ap₂, subst, sym}
 use native.Mathlib.Omega.{arith}
 use Rattle.compiles.proofs.Delays.{digits-delayed, later-near, plain-delayed, same-near}
 use Rattle.compiles.specs.Months.{Near, laterDigits, laterPlain}
 use Rattle.compiles.specs.Ready.{Ready}
-use Rattle.copies.proofs.LyingParts.{Three, Two, laid, lying-below, three-lie, two-lie}
+use Rattle.copies.proofs.LyingParts.{Three, Two, laid, lying-below, lying-length, three-lie, two-lie}
 use Rattle.copies.proofs.PlanLetters.{Is, is-so, letter-is, some-depth}
 use Rattle.copies.proofs.Shapes.{amount-shape, is-node, plan-shape, test-shape}
 use Rattle.copies.specs.Lies.{Lies}
@@ -25,7 +26,7 @@ use Rattle.nodes.proofs.Laid.{laid-slot}
 use Rattle.nodes.proofs.PlansFound.{delay-back}
 use Rattle.nodes.specs.Letters.{planLetter}
 use Rattle.nodes.specs.Rows.{countOf, delayFrom, delaySlot, fieldSlots, settingsSlot, slotsOf}
-use Rattle.nodes.specs.Table.{linkAt, slotAt}
+use Rattle.nodes.specs.Table.{RowIn, linkAt, slotAt}
 use Rattle.nodes.specs.declared.PlanLetter.the-variants as letter
 use Rattle.nodes.specs.declared.PlanLetter.{PlanLetter}
 
@@ -33,9 +34,14 @@ module _ {plain digits : ℤ} {nodes : List ℤ} {at to left : ℕ} (y : Ready p
   pub by-letter : {l k : PlanLetter} → l ≡ planLetter (slotAt nodes at 0) → l ≡ k → Is k (y .plan)
   by-letter el e = subst (λ m. Is m (y .plan)) (sym (letter-is (y .plan) (y .lies)) ∙ sym el ∙ e) (is-so (y .plan))
 
-  pub inside : (at < to) × (to ≤ maxNodes)
+  pub inside : (at < to) × (to ≤ maxNodes) × (5 * to ≤ length nodes)
   unfolding countOf
-  inside = (omega (arith, y .lies .ends, ap countOf (plan-shape (y .plan) .is end)), y .lies .room)
+  inside =
+      let s : at < to = omega (arith, y .lies .ends, ap countOf (plan-shape (y .plan) .is end)) in
+      (s, y .lies .room, lying-length s (y .lies))
+
+  pub row-in : RowIn nodes at
+  row-in = (omega (arith, inside .0, inside .1), omega (arith, inside .0, inside .2))
 
   pub some-left : 0 < left
   some-left = omega (arith, some-depth (y .plan), y .depth)

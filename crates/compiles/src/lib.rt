@@ -20,15 +20,15 @@ pub mod rows;
 
 // The rows of an amount or test, the month so far added to each `O`.
 pub fn compile_rows(
-    nodes: &[i64; 2560],
+    nodes: &&[i64],
     out: &mut [i64],
     count: usize,
     from: usize,
     to: usize,
     month: Months,
 ) -> usize
-    requires { ⌜ (natAbs (month .plain) ≤ 19_200) × (from ≤ to) × (to ≤ 512) × (5 * (count + (to - from)) ≤ length (now out)) ⌝ }
-    ensures { λ r. ⌜ Copied (compileRow (month .plain) (month .digits)) (now (nodes .entry)) from to (now (out .entry)) (now (out .exit)) count r ⌝ }
+    requires { ⌜ (natAbs (month .plain) ≤ 19_200) × (from ≤ to) × (to ≤ 512) × (5 * to ≤ length (now (now nodes))) × (5 * (count + (to - from)) ≤ length (now out)) ⌝ }
+    ensures { λ r. ⌜ Copied (compileRow (month .plain) (month .digits)) (now (now (nodes .entry))) from to (now (out .entry)) (now (out .exit)) count r ⌝ }
 {
     let mut next = count;
     let mut at = from;
@@ -41,7 +41,7 @@ pub fn compile_rows(
 
 // The payoff of the plan that stands in the rows from node `at` up to node `to`; `month` is the sum of all delays above.
 pub fn compile_plan(
-    nodes: &[i64; 2560],
+    nodes: &&[i64],
     out: &mut [i64],
     count: usize,
     at: usize,
@@ -49,8 +49,8 @@ pub fn compile_plan(
     month: Months,
     left: usize,
 ) -> usize
-    requires { ⌜ Ready (month .plain) (month .digits) (now nodes) at to left × (5 * (count + (to - at)) ≤ length (now out)) ⌝ }
-    ensures { λ r. ⌜ (r + at ≤ count + to) × ((y : Ready (month .plain) (month .digits) (now (nodes .entry)) at to left)
+    requires { ⌜ Ready (month .plain) (month .digits) (now (now nodes)) at to left × (5 * (count + (to - at)) ≤ length (now out)) ⌝ }
+    ensures { λ r. ⌜ (r + at ≤ count + to) × ((y : Ready (month .plain) (month .digits) (now (now (nodes .entry))) at to left)
         → Appended (now (out .entry)) (now (out .exit)) count r (plainRows payoffForm (payoffTrees (compilePlan (y .month) (y .plan)) end))) ⌝ }
 {
     let letter = node::plan_kind(nodes, at);

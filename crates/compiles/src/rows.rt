@@ -1,5 +1,5 @@
 // One row of a compiled payoff.
-ghost use Prim.Native.Nat.{_*_, _+_, _<_, _≤_};
+ghost use Prim.Native.Nat.{_*_, _+_, _≤_};
 ghost use lib.IntN.{natAbs, pos};
 ghost use lib.ListN.{length};
 ghost use mathlib.Core.List.{[], _∷_};
@@ -7,7 +7,7 @@ ghost use mathlib.Core.Path.{_≡_};
 ghost use Rattle.compiles.specs.Months.{compileRow};
 ghost use Rattle.copies.specs.Appended.{Appended};
 ghost use Rattle.nodes.specs.Pass.{rowFrom};
-ghost use Rattle.nodes.specs.Table.{slotAt};
+ghost use Rattle.nodes.specs.Table.{RowIn, slotAt};
 use crate::months;
 use crate::months::Months;
 use copies::Row;
@@ -15,23 +15,17 @@ use integers::Month;
 use measures::node;
 
 // A delay's number: below zero it is an open setting.
-pub fn delay(nodes: &[i64; 2560], at: usize) -> Month
-    requires { ⌜ at < 512 ⌝ }
-    ensures { λ r. ⌜ r .0 ≡ slotAt (now (nodes .entry)) at 1 ⌝ }
+pub fn delay(nodes: &&[i64], at: usize) -> Month
+    requires { ⌜ RowIn (now (now nodes)) at ⌝ }
+    ensures { λ r. ⌜ r .0 ≡ slotAt (now (now (nodes .entry))) at 1 ⌝ }
 {
     Month(nodes::slot(nodes, at, 1))
 }
 
 // A payment in this month, between the parties of the `T` at a node.
-pub fn put_leaf(
-    nodes: &[i64; 2560],
-    out: &mut [i64],
-    count: usize,
-    at: usize,
-    month: Months,
-) -> usize
-    requires { ⌜ (at < 512) × (5 * count + 5 ≤ length (now out)) ⌝ }
-    ensures { λ r. ⌜ Appended (now (out .entry)) (now (out .exit)) count r (pos 70 ∷ month .plain ∷ month .digits ∷ slotAt (now (nodes .entry)) at 1 ∷ slotAt (now (nodes .entry)) at 2 ∷ []) ⌝ }
+pub fn put_leaf(nodes: &&[i64], out: &mut [i64], count: usize, at: usize, month: Months) -> usize
+    requires { ⌜ RowIn (now (now nodes)) at × (5 * count + 5 ≤ length (now out)) ⌝ }
+    ensures { λ r. ⌜ Appended (now (out .entry)) (now (out .exit)) count r (pos 70 ∷ month .plain ∷ month .digits ∷ slotAt (now (now (nodes .entry))) at 1 ∷ slotAt (now (now (nodes .entry))) at 2 ∷ []) ⌝ }
 {
     copies::put_row(
         out,
@@ -47,9 +41,9 @@ pub fn put_leaf(
 }
 
 // An `O` of the label at a node, in this month.
-fn put_index(nodes: &[i64; 2560], out: &mut [i64], count: usize, at: usize, month: Months) -> usize
-    requires { ⌜ (at < 512) × (5 * count + 5 ≤ length (now out)) ⌝ }
-    ensures { λ r. ⌜ Appended (now (out .entry)) (now (out .exit)) count r (pos 79 ∷ slotAt (now (nodes .entry)) at 1 ∷ month .plain ∷ month .digits ∷ pos 0 ∷ []) ⌝ }
+fn put_index(nodes: &&[i64], out: &mut [i64], count: usize, at: usize, month: Months) -> usize
+    requires { ⌜ RowIn (now (now nodes)) at × (5 * count + 5 ≤ length (now out)) ⌝ }
+    ensures { λ r. ⌜ Appended (now (out .entry)) (now (out .exit)) count r (pos 79 ∷ slotAt (now (now (nodes .entry))) at 1 ∷ month .plain ∷ month .digits ∷ pos 0 ∷ []) ⌝ }
 {
     copies::put_row(
         out,
@@ -64,15 +58,9 @@ fn put_index(nodes: &[i64; 2560], out: &mut [i64], count: usize, at: usize, mont
     )
 }
 
-pub fn compile_row(
-    nodes: &[i64; 2560],
-    out: &mut [i64],
-    count: usize,
-    at: usize,
-    month: Months,
-) -> usize
-    requires { ⌜ (natAbs (month .plain) ≤ 19_200) × (at < 512) × (5 * count + 5 ≤ length (now out)) ⌝ }
-    ensures { λ r. ⌜ Appended (now (out .entry)) (now (out .exit)) count r (compileRow (month .plain) (month .digits) (rowFrom (at * 5) (now (nodes .entry)))) ⌝ }
+pub fn compile_row(nodes: &&[i64], out: &mut [i64], count: usize, at: usize, month: Months) -> usize
+    requires { ⌜ (natAbs (month .plain) ≤ 19_200) × RowIn (now (now nodes)) at × (5 * count + 5 ≤ length (now out)) ⌝ }
+    ensures { λ r. ⌜ Appended (now (out .entry)) (now (out .exit)) count r (compileRow (month .plain) (month .digits) (rowFrom (at * 5) (now (now (nodes .entry))))) ⌝ }
 {
     if node::is_index(nodes, at) {
         let m = months::offset_month(month, node::offset(nodes, at));

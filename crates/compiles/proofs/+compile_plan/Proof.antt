@@ -19,17 +19,17 @@ use Rattle.nodes.proofs.link.Reads as link-reads
 use Rattle.compiles.proofs.+compile_plan.{statement}
 use Rattle.compiles.proofs.+compile_plan.Tie.{close}
 
-abbrev μ-compile-plan : Measures 2 compile-plan-kinds.ps ℕ
+abbrev μ-compile-plan : Measures 3 compile-plan-kinds.ps ℕ
 μ-compile-plan κs a = a .1 .1 .1 .1 .1 .1 .0
 
-abbrev compile-plan-at : ℕ → In 2 compile-plan-kinds.ps
-compile-plan-at t = and 2 compile-plan-kinds.ps (is 2 compile-plan-kinds.ps μ-compile-plan t) compile-plan.Pre
+abbrev compile-plan-at : ℕ → In 3 compile-plan-kinds.ps
+compile-plan-at t = and 3 compile-plan-kinds.ps (is 3 compile-plan-kinds.ps μ-compile-plan t) compile-plan.Pre
 
-abbrev compile-plan-below : ℕ → In 2 compile-plan-kinds.ps
+abbrev compile-plan-below : ℕ → In 3 compile-plan-kinds.ps
 compile-plan-below t = and
-    2
+    3
     compile-plan-kinds.ps
-    (falls 2 compile-plan-kinds.ps _<_ μ-compile-plan t)
+    (falls 3 compile-plan-kinds.ps _<_ μ-compile-plan t)
     compile-plan.Pre
 
 abbrev compile-plan-calls : ℕ → compile-plan-lts.Claims
@@ -37,8 +37,7 @@ compile-plan-calls t = (plan-kind-reads.Asked, plan-kind-reads.Learnt, put-lette
 
 compile-plan-plan-kind-requires : (t : ℕ) → compile-plan-lts.Need-plan-kind-requires (compile-plan-calls t) (compile-plan-at t) compile-plan.Post
 compile-plan-plan-kind-requires t c κs =
-    let y = c .pre .1 .0 in
-    omega (arith, parts.inside y .0, parts.inside y .1)
+    parts.row-in (c .pre .1 .0)
 
 compile-plan-put-letter-requires : (t : ℕ) → compile-plan-lts.Need-put-letter-requires (compile-plan-calls t) (compile-plan-at t) compile-plan.Post
 compile-plan-put-letter-requires t c κs =
@@ -48,13 +47,13 @@ compile-plan-put-letter-requires t c κs =
 compile-plan-put-leaf-requires : (t : ℕ) → compile-plan-lts.Need-put-leaf-requires (compile-plan-calls t) (compile-plan-at t) compile-plan.Post
 compile-plan-put-leaf-requires t c κs =
     let y = c .before .before .before .before .pre .1 .0 in
-    (omega (arith, parts.inside y .0, parts.inside y .1), omega (arith, c .before .before .before .before .pre .1 .1, parts.inside y .0))
+    (parts.row-in y, omega (arith, c .before .before .before .before .pre .1 .1, parts.inside y .0))
 
 compile-plan-link-requires : (t : ℕ) → compile-plan-lts.Need-link-requires (compile-plan-calls t) (compile-plan-at t) compile-plan.Post
 compile-plan-link-requires t c κs =
     let y = c .before .before .before .pre .1 .0 in
     let i = parts.by-letter y (c .before .before .plan-kind .ensures) (c .enum-told3 .given .1) in
-    (omega (arith, parts.inside y .0, parts.inside y .1), omega arith, parts.scale-parts y i .forward)
+    (parts.row-in y, omega arith, parts.scale-parts y i .forward)
 
 compile-plan-put-letter-requires-2 : (t : ℕ) → compile-plan-lts.Need-put-letter-requires-2 (compile-plan-calls t) (compile-plan-at t) compile-plan.Post
 compile-plan-put-letter-requires-2 t c κs =
@@ -71,7 +70,7 @@ compile-plan-compile-rows-requires t c κs =
     let y = c .before .before .before .before .before .before .before .before .pre .1 .0 in
     let i = parts.by-letter y (c .before .before .before .before .before .before .before .plan-kind .ensures) (c .before .before .before .before .before .enum-told3 .given .1) in
     let o = parts.scale-order y i (c .before .before .before .before .link .ensures) in
-    (parts.plain-small y, o .0, omega (arith, o .1, parts.inside y .1), omega (arith, o .0, o .1, c .before .before .before .before .before .before .before .before .pre .1 .1, c .before .before .put-letter2 .ensures .ends, c .before .before .put-letter2 .kept .0))
+    (parts.plain-small y, o .0, omega (arith, o .1, parts.inside y .1), omega (arith, o .1, parts.inside y .2), omega (arith, o .0, o .1, c .before .before .before .before .before .before .before .before .pre .1 .1, c .before .before .put-letter2 .ensures .ends, c .before .before .put-letter2 .kept .0))
 
 compile-plan-sub-compile-plan : (t : ℕ) → compile-plan-lts.Need-sub-compile-plan (compile-plan-calls t) (compile-plan-at t) compile-plan.Post
 compile-plan-sub-compile-plan t c =
@@ -87,8 +86,7 @@ compile-plan-compile-plan-requires t c κs =
 
 compile-plan-delay-requires : (t : ℕ) → compile-plan-lts.Need-delay-requires (compile-plan-calls t) (compile-plan-at t) compile-plan.Post
 compile-plan-delay-requires t c κs =
-    let y = c .before .before .before .pre .1 .0 in
-    omega (arith, parts.inside y .0, parts.inside y .1)
+    parts.row-in (c .before .before .before .pre .1 .0)
 
 compile-plan-later-requires : (t : ℕ) → compile-plan-lts.Need-later-requires (compile-plan-calls t) (compile-plan-at t) compile-plan.Post
 compile-plan-later-requires t c κs =
@@ -116,7 +114,7 @@ compile-plan-link-requires-2 : (t : ℕ) → compile-plan-lts.Need-link-requires
 compile-plan-link-requires-2 t c κs =
     let y = c .before .before .before .pre .1 .0 in
     let i = parts.by-letter y (c .before .before .plan-kind .ensures) (c .enum-told5 .given .1) in
-    (omega (arith, parts.inside y .0, parts.inside y .1), omega arith, parts.both-parts y i .forward)
+    (parts.row-in y, omega arith, parts.both-parts y i .forward)
 
 compile-plan-put-letter-requires-3 : (t : ℕ) → compile-plan-lts.Need-put-letter-requires-3 (compile-plan-calls t) (compile-plan-at t) compile-plan.Post
 compile-plan-put-letter-requires-3 t c κs =
@@ -156,18 +154,18 @@ compile-plan-link-requires-3 : (t : ℕ) → compile-plan-lts.Need-link-requires
 compile-plan-link-requires-3 t c κs =
     let y = c .before .before .before .pre .1 .0 in
     let i = parts.by-letter y (c .before .before .plan-kind .ensures) (c .enum-told6 .given .1) in
-    (omega (arith, parts.inside y .0, parts.inside y .1), omega arith, parts.within-parts y i .forward)
+    (parts.row-in y, omega arith, parts.within-parts y i .forward)
 
 compile-plan-link-requires-4 : (t : ℕ) → compile-plan-lts.Need-link-requires-4 (compile-plan-calls t) (compile-plan-at t) compile-plan.Post
 compile-plan-link-requires-4 t c κs =
     let y = c .before .before .before .before .pre .1 .0 in
     let i = parts.by-letter y (c .before .before .before .plan-kind .ensures) (c .before .enum-told6 .given .1) in
-    (omega (arith, parts.inside y .0, parts.inside y .1), omega arith, parts.within-parts y i .forwardAgain)
+    (parts.row-in y, omega arith, parts.within-parts y i .forwardAgain)
 
 compile-plan-copy-row-requires : (t : ℕ) → compile-plan-lts.Need-copy-row-requires (compile-plan-calls t) (compile-plan-at t) compile-plan.Post
 compile-plan-copy-row-requires t c κs =
     let y = c .before .before .before .before .before .before .pre .1 .0 in
-    (omega (arith, parts.inside y .0, parts.inside y .1), omega (arith, c .before .before .before .before .before .before .pre .1 .1, parts.inside y .0))
+    (parts.row-in y, omega (arith, c .before .before .before .before .before .before .pre .1 .1, parts.inside y .0))
 
 compile-plan-add-compile-rows-2 : (t : ℕ) → compile-plan-lts.Need-add-compile-rows-2 (compile-plan-calls t) (compile-plan-at t) compile-plan.Post
 compile-plan-add-compile-rows-2 t c =
@@ -179,7 +177,7 @@ compile-plan-compile-rows-requires-2 t c κs =
     let y = c .before .before .before .before .before .before .before .before .before .pre .1 .0 in
     let i = parts.by-letter y (c .before .before .before .before .before .before .before .before .plan-kind .ensures) (c .before .before .before .before .before .before .enum-told6 .given .1) in
     let o = parts.within-order y i (c .before .before .before .before .before .link3 .ensures) (c .before .before .before .before .link4 .ensures) in
-    (parts.plain-small y, o .0, omega (arith, o .1, o .2, parts.inside y .1), omega (arith, o .0, o .1, o .2, c .before .before .before .before .before .before .before .before .before .pre .1 .1, c .before .before .copy-row .ensures .ends, c .before .before .copy-row .ensures .size))
+    (parts.plain-small y, o .0, omega (arith, o .1, o .2, parts.inside y .1), omega (arith, o .1, o .2, parts.inside y .2), omega (arith, o .0, o .1, o .2, c .before .before .before .before .before .before .before .before .before .pre .1 .1, c .before .before .copy-row .ensures .ends, c .before .before .copy-row .ensures .size))
 
 compile-plan-sub-compile-plan-5 : (t : ℕ) → compile-plan-lts.Need-sub-compile-plan-5 (compile-plan-calls t) (compile-plan-at t) compile-plan.Post
 compile-plan-sub-compile-plan-5 t c =
