@@ -1,7 +1,8 @@
 -- A plan that can be stepped, as the walk asks for it: what its letter tells of it, and its parts.
-use Prim.Native.Nat.{_+_, _-_, _<_, _≤_, ℕ}
+use Prim.Native.Nat.{_*_, _+_, _-_, _<_, _≤_, ℕ}
 use borrow.Author.Tests.{leb-false, leb-true}
 use lib.IntN.{pos, ℤ}
+use lib.ListN.{length}
 use lib.Signed.{leZ}
 use mathlib.Core.Bool.{false, true}
 use mathlib.Core.List.{List}
@@ -11,7 +12,7 @@ use Rattle.amounts.proofs.TablePlaces.{lengths-of}
 use Rattle.amounts.specs.Fine.{FineTest, MonthIn}
 use Rattle.amounts.specs.Flat.{flat}
 use Rattle.amounts.specs.Placed.{placeIn, placedAmount, placedPlan, placedTest}
-use Rattle.copies.proofs.LyingParts.{Three, Two}
+use Rattle.copies.proofs.LyingParts.{Three, Two, lying-length}
 use Rattle.copies.proofs.PlanLetters.{Is, is-so, letter-is, some-depth}
 use Rattle.copies.proofs.Shapes.{plan-shape}
 use Rattle.copies.specs.Lies.{Lies}
@@ -30,7 +31,7 @@ use Rattle.nodes.specs.Found.{offsetOf, testAt}
 use Rattle.nodes.specs.Letters.{planLetter}
 use Rattle.nodes.specs.Rows.{countOf}
 use Rattle.nodes.specs.Stands.{TestStands}
-use Rattle.nodes.specs.Table.{linkAt, natOf, slotAt}
+use Rattle.nodes.specs.Table.{RowIn, linkAt, natOf, slotAt}
 use Rattle.nodes.specs.declared.PlanLetter.the-variants as letter
 use Rattle.nodes.specs.declared.PlanLetter.{PlanLetter}
 use Rattle.places.proofs.PassFound.{table-span}
@@ -58,11 +59,15 @@ module _ {h f : ℤ} {bounds values : List ℤ} {r : ℕ} {nodes : List ℤ} {at
       let place = placeIn (tableOf h f (y .factors) bounds values) in
       subst (λ m. Is m (y .plan)) (sym (same-letter place (y .plan)) ∙ sym (letter-is (closed (placedPlan place (y .plan))) (y .steps .lies)) ∙ sym el ∙ e) (is-so (y .plan))
 
-  pub inside : (at < to) × (to ≤ maxNodes)
+  pub inside : (at < to) × (to ≤ maxNodes) × (5 * to ≤ length nodes)
   unfolding countOf
   inside =
       let n = plan-shape (closed (placedPlan (placeIn (tableOf h f (y .factors) bounds values)) (y .plan))) in
-      (omega (arith, y .steps .lies .ends, ap countOf (n .is end)), y .steps .lies .room)
+      let s : at < to = omega (arith, y .steps .lies .ends, ap countOf (n .is end)) in
+      (s, y .steps .lies .room, lying-length s (y .steps .lies))
+
+  pub row-in : RowIn nodes at
+  row-in = (omega (arith, inside .0, inside .1), omega (arith, inside .0, inside .2))
 
   pub some-left : 0 < left
   some-left = omega (arith, some-depth (y .plan), y .steps .depth)

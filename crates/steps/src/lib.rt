@@ -38,15 +38,15 @@ pub mod rows;
 
 // The rows from node `from` up to node `to`, each `O` with its offset again.
 pub fn restore_rows(
-    nodes: &[i64; 2560],
+    nodes: &&[i64],
     span: Span,
     out: &mut [i64],
     count: usize,
     from: usize,
     to: usize,
 ) -> usize
-    requires { ⌜ SpanIn (span .h) (span .f) × (from ≤ to) × (to ≤ 512) × (5 * (count + (to - from)) ≤ length (now out)) ⌝ }
-    ensures { λ r. ⌜ Copied (restoreRow (span .h) (span .f)) (now (nodes .entry)) from to (now (out .entry)) (now (out .exit)) count r ⌝ }
+    requires { ⌜ SpanIn (span .h) (span .f) × (from ≤ to) × (to ≤ 512) × (5 * to ≤ length (now (now nodes))) × (5 * (count + (to - from)) ≤ length (now out)) ⌝ }
+    ensures { λ r. ⌜ Copied (restoreRow (span .h) (span .f)) (now (now (nodes .entry))) from to (now (out .entry)) (now (out .exit)) count r ⌝ }
 {
     let mut next = count;
     let mut at = from;
@@ -59,9 +59,9 @@ pub fn restore_rows(
 
 // The rows of an amount, stepped.
 pub fn step_rows(
-    nodes: &[i64; 2560],
-    values: &[i64],
-    bounds: &[i64],
+    nodes: &&[i64],
+    values: &&[i64],
+    bounds: &&[i64],
     span: Span,
     today: Month,
     out: &mut [i64],
@@ -69,8 +69,8 @@ pub fn step_rows(
     from: usize,
     to: usize,
 ) -> usize
-    requires { ⌜ SpanIn (span .h) (span .f) × Kept (span .h) (span .f) (now bounds) (now values) × MonthIn (today .0) × (from ≤ to) × (to ≤ 512) × (5 * (count + (to - from)) ≤ length (now out)) ⌝ }
-    ensures { λ r. ⌜ Copied (stepRow (readTable (span .h) (span .f) (now (bounds .entry)) (now (values .entry))) (natOf (today .0))) (now (nodes .entry)) from to (now (out .entry)) (now (out .exit)) count r ⌝ }
+    requires { ⌜ SpanIn (span .h) (span .f) × Kept (span .h) (span .f) (now (now bounds)) (now (now values)) × MonthIn (today .0) × (from ≤ to) × (to ≤ 512) × (5 * to ≤ length (now (now nodes))) × (5 * (count + (to - from)) ≤ length (now out)) ⌝ }
+    ensures { λ r. ⌜ Copied (stepRow (readTable (span .h) (span .f) (now (now (bounds .entry))) (now (now (values .entry)))) (natOf (today .0))) (now (now (nodes .entry))) from to (now (out .entry)) (now (out .exit)) count r ⌝ }
 {
     let mut next = count;
     let mut at = from;
@@ -89,15 +89,15 @@ pub struct Today {
 
 // A waiting node and all that stands beneath it: the delay falls by one, and nothing is paid yet.
 fn keep_waiting(
-    nodes: &[i64; 2560],
+    nodes: &&[i64],
     span: Span,
     out: &mut [i64],
     count: usize,
     at: usize,
     to: usize,
 ) -> Today
-    requires { ⌜ SpanIn (span .h) (span .f) × (at < to) × (to ≤ 512) × (0 < natOf (slotAt (now nodes) at 1)) × (5 * (count + (to - at)) ≤ length (now out)) ⌝ }
-    ensures { λ r. ⌜ (r .pence .0 ≡ pos 0) × Waits (span .h) (span .f) (now (nodes .entry)) at to (now (out .entry)) (now (out .exit)) count (r .next) ⌝ }
+    requires { ⌜ SpanIn (span .h) (span .f) × (at < to) × (to ≤ 512) × (5 * to ≤ length (now (now nodes))) × (0 < natOf (slotAt (now (now nodes)) at 1)) × (5 * (count + (to - at)) ≤ length (now out)) ⌝ }
+    ensures { λ r. ⌜ (r .pence .0 ≡ pos 0) × Waits (span .h) (span .f) (now (now (nodes .entry))) at to (now (out .entry)) (now (out .exit)) count (r .next) ⌝ }
 {
     let nothing_yet = Pence(0);
     let head = rows::put_delay(
@@ -116,9 +116,9 @@ fn keep_waiting(
 // The step of the plan that stands in the rows from node `at` up to node `to`, its root in month `today`, and what it pays in that
 // month. Both are found in one walk, so a test is tried once; what starts later pays nothing yet.
 pub fn step_plan(
-    nodes: &[i64; 2560],
-    values: &[i64],
-    bounds: &[i64],
+    nodes: &&[i64],
+    values: &&[i64],
+    bounds: &&[i64],
     span: Span,
     today: Month,
     pair: Pair,
@@ -128,11 +128,11 @@ pub fn step_plan(
     to: usize,
     left: usize,
 ) -> Today
-    requires { ⌜ MonthIn (today .0) × PairIn (pair .p) (pair .q) × Ready (span .h) (span .f) (now bounds) (now values) (natOf (today .0)) (now nodes) at to left × (5 * (count + (to - at)) ≤ length (now out))
-        × PlanStands left (now nodes) at × FinePlan (now values) (signOf (pair .p) (pair .q)) (planAt natOf left (now nodes) at) (natOf (today .0)) (natOf (today .0)) ⌝ }
-    ensures { λ r. ⌜ (r .pence .0 ≡ pays (flat (now (values .entry))) (signOf (pair .p) (pair .q)) (planAt natOf left (now (nodes .entry)) at) (natOf (today .0)) (natOf (today .0)))
-        × (r .next + at ≤ count + to) × ((y : Ready (span .h) (span .f) (now (bounds .entry)) (now (values .entry)) (natOf (today .0)) (now (nodes .entry)) at to left)
-        → Appended (now (out .entry)) (now (out .exit)) count (r .next) (plainRows planForm (planTrees (closed (step (lookupOf (readTable (span .h) (span .f) (now (bounds .entry)) (now (values .entry)))) (natOf (today .0)) (y .plan))) end))) ⌝ }
+    requires { ⌜ MonthIn (today .0) × PairIn (pair .p) (pair .q) × Ready (span .h) (span .f) (now (now bounds)) (now (now values)) (natOf (today .0)) (now (now nodes)) at to left × (5 * (count + (to - at)) ≤ length (now out))
+        × PlanStands left (now (now nodes)) at × FinePlan (now (now values)) (signOf (pair .p) (pair .q)) (planAt natOf left (now (now nodes)) at) (natOf (today .0)) (natOf (today .0)) ⌝ }
+    ensures { λ r. ⌜ (r .pence .0 ≡ pays (flat (now (now (values .entry)))) (signOf (pair .p) (pair .q)) (planAt natOf left (now (now (nodes .entry))) at) (natOf (today .0)) (natOf (today .0)))
+        × (r .next + at ≤ count + to) × ((y : Ready (span .h) (span .f) (now (now (bounds .entry))) (now (now (values .entry))) (natOf (today .0)) (now (now (nodes .entry))) at to left)
+        → Appended (now (out .entry)) (now (out .exit)) count (r .next) (plainRows planForm (planTrees (closed (step (lookupOf (readTable (span .h) (span .f) (now (now (bounds .entry))) (now (now (values .entry))))) (natOf (today .0)) (y .plan))) end))) ⌝ }
 {
     let letter = node::plan_kind(nodes, at);
     match letter {

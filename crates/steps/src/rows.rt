@@ -1,6 +1,6 @@
 // One row of the plan for tomorrow.
 ghost use mathlib.Core.Path.{_≡_};
-ghost use Prim.Native.Nat.{_*_, _+_, _<_, _≤_};
+ghost use Prim.Native.Nat.{_*_, _+_, _≤_};
 ghost use lib.IntN.{pos};
 ghost use lib.ListN.{length};
 ghost use mathlib.Core.List.{[], _∷_};
@@ -9,7 +9,7 @@ ghost use Rattle.copies.specs.Appended.{Appended};
 ghost use Rattle.integers.specs.Bounded.{Small};
 ghost use Rattle.language.specs.Rules.Table.{valueAt};
 ghost use Rattle.nodes.specs.Pass.{rowFrom};
-ghost use Rattle.nodes.specs.Table.{natOf, slotAt};
+ghost use Rattle.nodes.specs.Table.{RowIn, natOf, slotAt};
 ghost use Rattle.places.specs.Place.{SpanIn};
 ghost use Rattle.steps.specs.Offsets.{restoreRow, stepRow};
 ghost use Rattle.tables.specs.Lookup.{Kept, readTable};
@@ -23,9 +23,9 @@ use tables::lookup;
 use tables::lookup::Found;
 
 // The row of an `L` or a `W`, with another delay.
-pub fn put_delay(nodes: &[i64; 2560], out: &mut [i64], count: usize, at: usize, d: Month) -> usize
-    requires { ⌜ (at < 512) × (5 * count + 5 ≤ length (now out)) ⌝ }
-    ensures { λ r. ⌜ Appended (now (out .entry)) (now (out .exit)) count r (slotAt (now (nodes .entry)) at 0 ∷ d .0 ∷ pos 0 ∷ pos 0 ∷ pos 0 ∷ []) ⌝ }
+pub fn put_delay(nodes: &&[i64], out: &mut [i64], count: usize, at: usize, d: Month) -> usize
+    requires { ⌜ RowIn (now (now nodes)) at × (5 * count + 5 ≤ length (now out)) ⌝ }
+    ensures { λ r. ⌜ Appended (now (out .entry)) (now (out .exit)) count r (slotAt (now (now (nodes .entry))) at 0 ∷ d .0 ∷ pos 0 ∷ pos 0 ∷ pos 0 ∷ []) ⌝ }
 {
     copies::put_row(
         out,
@@ -58,9 +58,9 @@ fn put_number(out: &mut [i64], count: usize, n: Pence) -> usize
 }
 
 // The row of an `O`, with another offset.
-fn put_index(nodes: &[i64; 2560], out: &mut [i64], count: usize, at: usize, i: Month) -> usize
-    requires { ⌜ (at < 512) × (5 * count + 5 ≤ length (now out)) ⌝ }
-    ensures { λ r. ⌜ Appended (now (out .entry)) (now (out .exit)) count r (pos 79 ∷ slotAt (now (nodes .entry)) at 1 ∷ i .0 ∷ pos 0 ∷ pos 0 ∷ []) ⌝ }
+fn put_index(nodes: &&[i64], out: &mut [i64], count: usize, at: usize, i: Month) -> usize
+    requires { ⌜ RowIn (now (now nodes)) at × (5 * count + 5 ≤ length (now out)) ⌝ }
+    ensures { λ r. ⌜ Appended (now (out .entry)) (now (out .exit)) count r (pos 79 ∷ slotAt (now (now (nodes .entry))) at 1 ∷ i .0 ∷ pos 0 ∷ pos 0 ∷ []) ⌝ }
 {
     copies::put_row(
         out,
@@ -76,26 +76,20 @@ fn put_index(nodes: &[i64; 2560], out: &mut [i64], count: usize, at: usize, i: M
 }
 
 // A label's value in a month; 0 where the table has none, which an accepted plan never reads.
-fn value_in(values: &[i64], bounds: &[i64], span: Span, label: usize, month: Month) -> Pence
-    requires { ⌜ Kept (span .h) (span .f) (now bounds) (now values) × Small (month .0) ⌝ }
-    ensures { λ r. ⌜ r .0 ≡ valueAt (readTable (span .h) (span .f) (now (bounds .entry)) (now (values .entry))) label (month .0) ⌝ }
+fn value_in(values: &&[i64], bounds: &&[i64], span: Span, label: usize, month: Month) -> Pence
+    requires { ⌜ Kept (span .h) (span .f) (now (now bounds)) (now (now values)) × Small (month .0) ⌝ }
+    ensures { λ r. ⌜ r .0 ≡ valueAt (readTable (span .h) (span .f) (now (now (bounds .entry))) (now (now (values .entry)))) label (month .0) ⌝ }
 {
-    let found = lookup::labelled(values, bounds, span, label, month);
+    let found = lookup::labelled(*values, *bounds, span, label, month);
     let Found::Value(value) = found else {
         return Pence(0);
     };
     value
 }
 
-pub fn restore_row(
-    nodes: &[i64; 2560],
-    span: Span,
-    out: &mut [i64],
-    count: usize,
-    at: usize,
-) -> usize
-    requires { ⌜ SpanIn (span .h) (span .f) × (at < 512) × (5 * count + 5 ≤ length (now out)) ⌝ }
-    ensures { λ r. ⌜ Appended (now (out .entry)) (now (out .exit)) count r (restoreRow (span .h) (span .f) (rowFrom (at * 5) (now (nodes .entry)))) ⌝ }
+pub fn restore_row(nodes: &&[i64], span: Span, out: &mut [i64], count: usize, at: usize) -> usize
+    requires { ⌜ SpanIn (span .h) (span .f) × RowIn (now (now nodes)) at × (5 * count + 5 ≤ length (now out)) ⌝ }
+    ensures { λ r. ⌜ Appended (now (out .entry)) (now (out .exit)) count r (restoreRow (span .h) (span .f) (rowFrom (at * 5) (now (now (nodes .entry))))) ⌝ }
 {
     if node::is_index(nodes, at) {
         let i = offsets::offset_of(span, node::label(nodes, at), node::offset(nodes, at));
@@ -105,17 +99,17 @@ pub fn restore_row(
 }
 
 pub fn step_row(
-    nodes: &[i64; 2560],
-    values: &[i64],
-    bounds: &[i64],
+    nodes: &&[i64],
+    values: &&[i64],
+    bounds: &&[i64],
     span: Span,
     today: Month,
     out: &mut [i64],
     count: usize,
     at: usize,
 ) -> usize
-    requires { ⌜ SpanIn (span .h) (span .f) × Kept (span .h) (span .f) (now bounds) (now values) × MonthIn (today .0) × (at < 512) × (5 * count + 5 ≤ length (now out)) ⌝ }
-    ensures { λ r. ⌜ Appended (now (out .entry)) (now (out .exit)) count r (stepRow (readTable (span .h) (span .f) (now (bounds .entry)) (now (values .entry))) (natOf (today .0)) (rowFrom (at * 5) (now (nodes .entry)))) ⌝ }
+    requires { ⌜ SpanIn (span .h) (span .f) × Kept (span .h) (span .f) (now (now bounds)) (now (now values)) × MonthIn (today .0) × RowIn (now (now nodes)) at × (5 * count + 5 ≤ length (now out)) ⌝ }
+    ensures { λ r. ⌜ Appended (now (out .entry)) (now (out .exit)) count r (stepRow (readTable (span .h) (span .f) (now (now (bounds .entry))) (now (now (values .entry)))) (natOf (today .0)) (rowFrom (at * 5) (now (now (nodes .entry))))) ⌝ }
 {
     if node::is_index(nodes, at) {
         let label = node::label(nodes, at);

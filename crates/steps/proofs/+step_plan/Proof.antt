@@ -31,27 +31,26 @@ use Rattle.steps.proofs.step_rows.Reads as step-rows-reads
 use Rattle.steps.proofs.+step_plan.{statement}
 use Rattle.steps.proofs.+step_plan.Tie.{close}
 
-abbrev μ-step-plan : Measures 4 step-plan-kinds.ps ℕ
+abbrev μ-step-plan : Measures 7 step-plan-kinds.ps ℕ
 μ-step-plan κs a = a .1 .1 .1 .1 .1 .1 .1 .1 .1 .1 .0
 
-abbrev step-plan-at : ℕ → In 4 step-plan-kinds.ps
-step-plan-at t = and 4 step-plan-kinds.ps (is 4 step-plan-kinds.ps μ-step-plan t) step-plan.Pre
+abbrev step-plan-at : ℕ → In 7 step-plan-kinds.ps
+step-plan-at t = and 7 step-plan-kinds.ps (is 7 step-plan-kinds.ps μ-step-plan t) step-plan.Pre
 
-abbrev step-plan-below : ℕ → In 4 step-plan-kinds.ps
-step-plan-below t = and 4 step-plan-kinds.ps (falls 4 step-plan-kinds.ps _<_ μ-step-plan t) step-plan.Pre
+abbrev step-plan-below : ℕ → In 7 step-plan-kinds.ps
+step-plan-below t = and 7 step-plan-kinds.ps (falls 7 step-plan-kinds.ps _<_ μ-step-plan t) step-plan.Pre
 
 abbrev step-plan-calls : ℕ → step-plan-lts.Claims
 step-plan-calls t = (plan-kind-reads.Asked, plan-kind-reads.Learnt, put-letter-reads.Asked, put-letter-reads.Learnt, penny-reads.Asked, penny-reads.Learnt, link-reads.Asked, link-reads.Learnt, amount-value-reads.Asked, amount-value-reads.Learnt, step-rows-reads.Asked, step-rows-reads.Learnt, step-plan-below t, step-plan.Post, times-reads.Asked, times-reads.Learnt, delay-reads.Asked, delay-reads.Learnt, due-reads.Asked, due-reads.Learnt, keep-waiting-reads.Asked, keep-waiting-reads.Learnt, plus-reads.Asked, plus-reads.Learnt, test-holds-reads.Asked, test-holds-reads.Learnt)
 
 -- the letter is known
 node : (t : ℕ) (s : step-plan-lts.After-plan-kind (step-plan-calls t) (step-plan-at t) step-plan.Post) {k : PlanLetter} → s .plan-kind .result ≡ k
-    → let a = s .before .args in PlanNode (a .values .now) (a .nodes .now) (signOf (a .pair .p) (a .pair .q)) (natOf (a .today .0)) (natOf (a .today .0)) (a .left) (a .at) k
+    → let a = s .before .args in PlanNode (a .values .now .now) (a .nodes .now .now) (signOf (a .pair .p) (a .pair .q)) (natOf (a .today .0)) (natOf (a .today .0)) (a .left) (a .at) k
 node t s e = plan-node _ _ _ _ _ _ _ (s .before .pre .1 .4) (s .before .pre .1 .5) (s .plan-kind .ensures) e
 
 step-plan-plan-kind-requires : (t : ℕ) → step-plan-lts.Need-plan-kind-requires (step-plan-calls t) (step-plan-at t) step-plan.Post
 step-plan-plan-kind-requires t c κs =
-    let y = c .pre .1 .2 in
-    omega (arith, parts.inside y .0, parts.inside y .1)
+    parts.row-in (c .pre .1 .2)
 
 step-plan-put-letter-requires : (t : ℕ) → step-plan-lts.Need-put-letter-requires (step-plan-calls t) (step-plan-at t) step-plan.Post
 step-plan-put-letter-requires t c κs =
@@ -61,7 +60,7 @@ step-plan-put-letter-requires t c κs =
 step-plan-penny-requires : (t : ℕ) → step-plan-lts.Need-penny-requires (step-plan-calls t) (step-plan-at t) step-plan.Post
 step-plan-penny-requires t c κs =
     let y = c .before .before .before .pre .1 .2 in
-    (omega (arith, parts.inside y .0, parts.inside y .1), c .before .before .before .pre .1 .1)
+    (parts.row-in y, c .before .before .before .pre .1 .1)
 
 step-plan-put-letter-requires-2 : (t : ℕ) → step-plan-lts.Need-put-letter-requires-2 (step-plan-calls t) (step-plan-at t) step-plan.Post
 step-plan-put-letter-requires-2 t c κs =
@@ -72,7 +71,7 @@ step-plan-link-requires : (t : ℕ) → step-plan-lts.Need-link-requires (step-p
 step-plan-link-requires t c κs =
     let y = c .before .before .before .pre .1 .2 in
     let i = parts.by-letter y (c .before .before .plan-kind .ensures) (c .enum-told3 .given .1) in
-    (omega (arith, parts.inside y .0, parts.inside y .1), omega arith, parts.scale-parts y i .forward)
+    (parts.row-in y, omega arith, parts.scale-parts y i .forward)
 
 step-plan-add-amount-value : (t : ℕ) → step-plan-lts.Need-add-amount-value (step-plan-calls t) (step-plan-at t) step-plan.Post
 step-plan-add-amount-value t c =
@@ -99,7 +98,7 @@ step-plan-step-rows-requires t c κs =
     let y = c .before .before .before .before .before .before .before .before .before .pre .1 .2 in
     let i = parts.by-letter y (c .before .before .before .before .before .before .before .before .plan-kind .ensures) (c .before .before .before .before .before .before .enum-told3 .given .1) in
     let o = parts.scale-order y i (c .before .before .before .before .before .link .ensures) in
-    (parts.span-in y, parts.kept y, c .before .before .before .before .before .before .before .before .before .pre .1 .0, o .0, omega (arith, o .1, parts.inside y .1), omega (arith, o .0, o .1, c .before .before .before .before .before .before .before .before .before .pre .1 .3, c .before .before .put-letter3 .ensures .ends, c .before .before .put-letter3 .kept .0))
+    (parts.span-in y, parts.kept y, c .before .before .before .before .before .before .before .before .before .pre .1 .0, o .0, omega (arith, o .1, parts.inside y .1), omega (arith, o .1, parts.inside y .2), omega (arith, o .0, o .1, c .before .before .before .before .before .before .before .before .before .pre .1 .3, c .before .before .put-letter3 .ensures .ends, c .before .before .put-letter3 .kept .0))
 
 step-plan-sub-step-plan : (t : ℕ) → step-plan-lts.Need-sub-step-plan (step-plan-calls t) (step-plan-at t) step-plan.Post
 step-plan-sub-step-plan t c =
@@ -122,8 +121,7 @@ step-plan-times-requires t c κs =
 
 step-plan-delay-requires : (t : ℕ) → step-plan-lts.Need-delay-requires (step-plan-calls t) (step-plan-at t) step-plan.Post
 step-plan-delay-requires t c κs =
-    let y = c .before .before .before .pre .1 .2 in
-    omega (arith, parts.inside y .0, parts.inside y .1)
+    parts.row-in (c .before .before .before .pre .1 .2)
 
 step-plan-add-step-plan : (t : ℕ) → step-plan-lts.Need-add-step-plan (step-plan-calls t) (step-plan-at t) step-plan.Post
 step-plan-add-step-plan t c =
@@ -146,13 +144,13 @@ step-plan-step-plan-requires-2 t c κs =
 step-plan-keep-waiting-requires : (t : ℕ) → step-plan-lts.Need-keep-waiting-requires (step-plan-calls t) (step-plan-at t) step-plan.Post
 step-plan-keep-waiting-requires t c κs =
     let y = c .before .before .before .before .before .before .before .pre .1 .2 in
-    (parts.span-in y, parts.inside y .0, parts.inside y .1, parts.some-left-of (c .before .before .before .delay .ensures) (sym (c .before .before .due .ensures) ∙ c .before .if1 .left), c .before .before .before .before .before .before .before .pre .1 .3)
+    (parts.span-in y, parts.inside y .0, parts.inside y .1, parts.inside y .2, parts.some-left-of (c .before .before .before .delay .ensures) (sym (c .before .before .due .ensures) ∙ c .before .if1 .left), c .before .before .before .before .before .before .before .pre .1 .3)
 
 step-plan-link-requires-2 : (t : ℕ) → step-plan-lts.Need-link-requires-2 (step-plan-calls t) (step-plan-at t) step-plan.Post
 step-plan-link-requires-2 t c κs =
     let y = c .before .before .before .pre .1 .2 in
     let i = parts.by-letter y (c .before .before .plan-kind .ensures) (c .enum-told5 .given .1) in
-    (omega (arith, parts.inside y .0, parts.inside y .1), omega arith, parts.both-parts y i .forward)
+    (parts.row-in y, omega arith, parts.both-parts y i .forward)
 
 step-plan-put-letter-requires-4 : (t : ℕ) → step-plan-lts.Need-put-letter-requires-4 (step-plan-calls t) (step-plan-at t) step-plan.Post
 step-plan-put-letter-requires-4 t c κs =
@@ -199,13 +197,13 @@ step-plan-link-requires-3 : (t : ℕ) → step-plan-lts.Need-link-requires-3 (st
 step-plan-link-requires-3 t c κs =
     let y = c .before .before .before .pre .1 .2 in
     let i = parts.by-letter y (c .before .before .plan-kind .ensures) (c .enum-told6 .given .1) in
-    (omega (arith, parts.inside y .0, parts.inside y .1), omega arith, parts.within-parts y i .forward)
+    (parts.row-in y, omega arith, parts.within-parts y i .forward)
 
 step-plan-link-requires-4 : (t : ℕ) → step-plan-lts.Need-link-requires-4 (step-plan-calls t) (step-plan-at t) step-plan.Post
 step-plan-link-requires-4 t c κs =
     let y = c .before .before .before .before .pre .1 .2 in
     let i = parts.by-letter y (c .before .before .before .plan-kind .ensures) (c .before .enum-told6 .given .1) in
-    (omega (arith, parts.inside y .0, parts.inside y .1), omega arith, parts.within-parts y i .forwardAgain)
+    (parts.row-in y, omega arith, parts.within-parts y i .forwardAgain)
 
 step-plan-add-test-holds : (t : ℕ) → step-plan-lts.Need-add-test-holds (step-plan-calls t) (step-plan-at t) step-plan.Post
 step-plan-add-test-holds t c =
@@ -235,8 +233,7 @@ step-plan-step-plan-requires-5 t c κs =
 
 step-plan-delay-requires-2 : (t : ℕ) → step-plan-lts.Need-delay-requires-2 (step-plan-calls t) (step-plan-at t) step-plan.Post
 step-plan-delay-requires-2 t c κs =
-    let y = c .before .before .before .before .before .before .before .pre .1 .2 in
-    omega (arith, parts.inside y .0, parts.inside y .1)
+    parts.row-in (c .before .before .before .before .before .before .before .pre .1 .2)
 
 step-plan-sub-step-plan-6 : (t : ℕ) → step-plan-lts.Need-sub-step-plan-6 (step-plan-calls t) (step-plan-at t) step-plan.Post
 step-plan-sub-step-plan-6 t c =
@@ -255,7 +252,7 @@ step-plan-step-plan-requires-6 t c κs =
 step-plan-keep-waiting-requires-2 : (t : ℕ) → step-plan-lts.Need-keep-waiting-requires-2 (step-plan-calls t) (step-plan-at t) step-plan.Post
 step-plan-keep-waiting-requires-2 t c κs =
     let y = c .before .before .before .before .before .before .before .before .before .before .before .pre .1 .2 in
-    (parts.span-in y, parts.inside y .0, parts.inside y .1, parts.some-left-of (c .before .before .before .delay2 .ensures) (sym (c .before .before .due2 .ensures) ∙ c .before .if3 .left), c .before .before .before .before .before .before .before .before .before .before .before .pre .1 .3)
+    (parts.span-in y, parts.inside y .0, parts.inside y .1, parts.inside y .2, parts.some-left-of (c .before .before .before .delay2 .ensures) (sym (c .before .before .due2 .ensures) ∙ c .before .if3 .left), c .before .before .before .before .before .before .before .before .before .before .before .pre .1 .3)
 
 step-plan-returns : (t : ℕ) → step-plan-lts.Need-returns (step-plan-calls t) (step-plan-at t) step-plan.Post
 step-plan-returns t c =

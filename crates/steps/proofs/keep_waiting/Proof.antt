@@ -13,7 +13,7 @@ delay-requires c κs = search needs
 
 earlier-requires : tie.Need-earlier-requires
 earlier-requires c κs =
-    subst (λ z. 0 < natOf z) (sym (c .delay .ensures)) (c .before .before .pre .3)
+    subst (λ z. 0 < natOf z) (sym (c .delay .ensures)) (c .before .before .pre .4)
 
 put-delay-requires : tie.Need-put-delay-requires
 put-delay-requires c κs = search needs

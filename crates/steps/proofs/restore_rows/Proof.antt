@@ -10,7 +10,7 @@ use Rattle.steps.proofs.restore_rows.Statement.{statement}
 use Rattle.steps.proofs.restore_rows.Tie as tie
 
 abbrev Inv-loop : tie.InvT-loop
-Inv-loop nodes span out₀ count from to next₀ at₀ out next at = (from ≤ at) × (at ≤ to) × Copied (restoreRow (span .h) (span .f)) nodes from at out₀ out count next
+Inv-loop nodes span out₀ count from to next₀ at₀ out next at = (from ≤ at) × (at ≤ to) × Copied (restoreRow (span .h) (span .f)) (nodes .now) from at out₀ out count next
 
 abbrev μ-loop : tie.MeasureT-loop
 μ-loop nodes span out₀ count from to next₀ at₀ out next at = to - at
@@ -19,13 +19,13 @@ loop-holds : tie.Need-loop-holds Inv-loop μ-loop
 loop-holds c =
     let s = c in
     let a = s .args in
-    (omega arith, omega (arith, s .pre .1), copied-none (restoreRow (a .span .h) (a .span .f)) (a .nodes .now) (a .from) (a .out .now) (a .count))
+    (omega arith, omega (arith, s .pre .1), copied-none (restoreRow (a .span .h) (a .span .f)) (a .nodes .now .now) (a .from) (a .out .now) (a .count))
 
 restore-row-requires : tie.Need-restore-row-requires Inv-loop μ-loop
 restore-row-requires c κs =
     let s = c .before .before .before in
     let l = c .before .before .loop in
-    (s .pre .0, omega (arith, c .before .loop-test .taken, s .pre .2), omega (arith, c .before .loop-test .taken, s .pre .3, l .inv .2 .counted, l .inv .2 .added .size, l .inv .0))
+    (s .pre .0, (omega (arith, c .before .loop-test .taken, s .pre .2), omega (arith, c .before .loop-test .taken, s .pre .3)), omega (arith, c .before .loop-test .taken, s .pre .4, l .inv .2 .counted, l .inv .2 .added .size, l .inv .0))
 
 add-at : tie.Need-add-at Inv-loop μ-loop
 add-at c =
@@ -39,7 +39,7 @@ loop-again : tie.Need-loop-again Inv-loop μ-loop
 loop-again c =
     let a = c .before .before .before .before .before .args in
     let l = c .before .before .before .before .loop in
-    (omega (arith, l .inv .0), omega (arith, c .before .before .before .loop-test .taken), copied-next (restoreRow (a .span .h) (a .span .f)) (a .nodes .now) (a .from) (l .inv .0) (restore-five (a .span .h) (a .span .f) (rowFrom (l .at * 5) (a .nodes .now))) (l .inv .2) (c .before .restore-row .ensures))
+    (omega (arith, l .inv .0), omega (arith, c .before .before .before .loop-test .taken), copied-next (restoreRow (a .span .h) (a .span .f)) (a .nodes .now .now) (a .from) (l .inv .0) (restore-five (a .span .h) (a .span .f) (rowFrom (l .at * 5) (a .nodes .now .now))) (l .inv .2) (c .before .restore-row .ensures))
 
 same-length : tie.Need-same-length Inv-loop μ-loop
 same-length c =
@@ -50,7 +50,7 @@ returns c =
     let l = c .before .loop in
     let a = c .before .before .args in
     let e : l .at ≡ a .to = omega (arith, c .loop-test .left, l .inv .1) in
-    subst (λ to. Copied (restoreRow (a .span .h) (a .span .f)) (a .nodes .now) (a .from) to (a .out .now) (l .out) (a .count) (l .next)) e (l .inv .2)
+    subst (λ to. Copied (restoreRow (a .span .h) (a .span .f)) (a .nodes .now .now) (a .from) to (a .out .now) (l .out) (a .count) (l .next)) e (l .inv .2)
 
 pub restore-rows-spec : {M : Type 1} → statement M
 restore-rows-spec =

@@ -12,7 +12,7 @@ use Rattle.steps.proofs.step_rows.Statement.{statement}
 use Rattle.steps.proofs.step_rows.Tie as tie
 
 abbrev Inv-loop : tie.InvT-loop
-Inv-loop nodes values bounds span today out₀ count from to next₀ at₀ out next at = (from ≤ at) × (at ≤ to) × Copied (stepRow (readTable (span .h) (span .f) bounds values) (natOf (today .0))) nodes from at out₀ out count next
+Inv-loop nodes values bounds span today out₀ count from to next₀ at₀ out next at = (from ≤ at) × (at ≤ to) × Copied (stepRow (readTable (span .h) (span .f) (bounds .now) (values .now)) (natOf (today .0))) (nodes .now) from at out₀ out count next
 
 abbrev μ-loop : tie.MeasureT-loop
 μ-loop nodes values bounds span today out₀ count from to next₀ at₀ out next at = to - at
@@ -21,13 +21,13 @@ loop-holds : tie.Need-loop-holds Inv-loop μ-loop
 loop-holds c =
     let s = c in
     let a = s .args in
-    (omega arith, omega (arith, s .pre .3), copied-none (stepRow (readTable (a .span .h) (a .span .f) (a .bounds .now) (a .values .now)) (natOf (a .today .0))) (a .nodes .now) (a .from) (a .out .now) (a .count))
+    (omega arith, omega (arith, s .pre .3), copied-none (stepRow (readTable (a .span .h) (a .span .f) (a .bounds .now .now) (a .values .now .now)) (natOf (a .today .0))) (a .nodes .now .now) (a .from) (a .out .now) (a .count))
 
 step-row-requires : tie.Need-step-row-requires Inv-loop μ-loop
 step-row-requires c κs =
     let s = c .before .before .before in
     let l = c .before .before .loop in
-    (s .pre .0, s .pre .1, s .pre .2, omega (arith, c .before .loop-test .taken, s .pre .4), omega (arith, c .before .loop-test .taken, s .pre .5, l .inv .2 .counted, l .inv .2 .added .size, l .inv .0))
+    (s .pre .0, s .pre .1, s .pre .2, (omega (arith, c .before .loop-test .taken, s .pre .4), omega (arith, c .before .loop-test .taken, s .pre .5)), omega (arith, c .before .loop-test .taken, s .pre .6, l .inv .2 .counted, l .inv .2 .added .size, l .inv .0))
 
 add-at : tie.Need-add-at Inv-loop μ-loop
 add-at c =
@@ -41,7 +41,7 @@ loop-again : tie.Need-loop-again Inv-loop μ-loop
 loop-again c =
     let a = c .before .before .before .before .before .args in
     let l = c .before .before .before .before .loop in
-    (omega (arith, l .inv .0), omega (arith, c .before .before .before .loop-test .taken), copied-next (stepRow (readTable (a .span .h) (a .span .f) (a .bounds .now) (a .values .now)) (natOf (a .today .0))) (a .nodes .now) (a .from) (l .inv .0) (step-five (readTable (a .span .h) (a .span .f) (a .bounds .now) (a .values .now)) (natOf (a .today .0)) (rowFrom (l .at * 5) (a .nodes .now))) (l .inv .2) (c .before .step-row .ensures))
+    (omega (arith, l .inv .0), omega (arith, c .before .before .before .loop-test .taken), copied-next (stepRow (readTable (a .span .h) (a .span .f) (a .bounds .now .now) (a .values .now .now)) (natOf (a .today .0))) (a .nodes .now .now) (a .from) (l .inv .0) (step-five (readTable (a .span .h) (a .span .f) (a .bounds .now .now) (a .values .now .now)) (natOf (a .today .0)) (rowFrom (l .at * 5) (a .nodes .now .now))) (l .inv .2) (c .before .step-row .ensures))
 
 same-length : tie.Need-same-length Inv-loop μ-loop
 same-length c =
@@ -52,7 +52,7 @@ returns c =
     let l = c .before .loop in
     let a = c .before .before .args in
     let e : l .at ≡ a .to = omega (arith, c .loop-test .left, l .inv .1) in
-    subst (λ to. Copied (stepRow (readTable (a .span .h) (a .span .f) (a .bounds .now) (a .values .now)) (natOf (a .today .0))) (a .nodes .now) (a .from) to (a .out .now) (l .out) (a .count) (l .next)) e (l .inv .2)
+    subst (λ to. Copied (stepRow (readTable (a .span .h) (a .span .f) (a .bounds .now .now) (a .values .now .now)) (natOf (a .today .0))) (a .nodes .now .now) (a .from) to (a .out .now) (l .out) (a .count) (l .next)) e (l .inv .2)
 
 pub step-rows-spec : {M : Type 1} → statement M
 step-rows-spec =
