@@ -3,16 +3,35 @@ ghost use mathlib.Core.Path.{_≡_};
 ghost use mathlib.Core.Bool.{_&&_};
 ghost use Prim.Native.Nat.{_*_, _≤_};
 ghost use lib.ListN.{length};
-ghost use Rattle.language.specs.Calls.{intoBuffer, pairOk, paymentCall, stepCall};
+ghost use Rattle.amounts.specs.Fine.{MonthIn};
+ghost use Rattle.amounts.specs.Flat.{flat};
+ghost use Rattle.copies.specs.Appended.{Appended};
+ghost use Rattle.copies.specs.Plain.{plainRows};
+ghost use Rattle.language.specs.Calls.{intoBuffer, lookupOf, pairOk, paymentCall, signOf, stepCall};
+ghost use Rattle.language.specs.Payments.Pays.{pays};
+ghost use Rattle.language.specs.Payments.Step.{step};
+ghost use Rattle.language.specs.Rules.Settings.{closed};
+ghost use Rattle.language.specs.Text.Letters.{planForm};
 ghost use Rattle.language.specs.Text.Number.{between};
+ghost use Rattle.language.specs.Text.Plans.{planTrees};
+ghost use Rattle.language.specs.Text.Reader.{end};
 ghost use Rattle.language.specs.Text.Trees.{Delay, Plan};
+ghost use Rattle.nodes.specs.Found.{planAt};
+ghost use Rattle.nodes.specs.Stands.{PlanStands};
+ghost use Rattle.nodes.specs.Table.{natOf};
 ghost use Rattle.payments.specs.Answers.{askedOk, paidBy, payingAnswer, steppedBy, steppingAnswer};
+ghost use Rattle.pays.specs.FinePlan.{FinePlan};
+ghost use Rattle.pays.specs.Parties.{PairIn};
 ghost use Rattle.rules.specs.Answers.{givenOf};
 ghost use Rattle.rules.specs.Standing.{Standing, Stands};
+ghost use Rattle.steps.specs.Ready.{Ready};
+ghost use Rattle.tables.specs.Lookup.{readTable};
+ghost use Rattle.text.specs.Room.{Roomy};
 use integers::Month;
 use integers::Pence;
 use pays::Pair;
 use rules::Checking;
+use steps::Today;
 use tables::Range;
 use tables::Span;
 use text::Reading;
@@ -24,9 +43,17 @@ pub enum Paying {
     Refused(Refusal),
 }
 
+// The walk of the plan from its root: a table and its values go with it as one pointer each.
+fn plan_pays(nodes: &[i64], values: &[i64], today: Month, month: Month, pair: Pair) -> Pence
+    requires { ⌜ MonthIn (today .0) × MonthIn (month .0) × PairIn (pair .p) (pair .q) × PlanStands 32 (now nodes) 0 × FinePlan (now values) (signOf (pair .p) (pair .q)) (planAt natOf 32 (now nodes) 0) (natOf (today .0)) (natOf (month .0)) ⌝ }
+    ensures { λ r. ⌜ r .0 ≡ pays (flat (now (values .entry))) (signOf (pair .p) (pair .q)) (planAt natOf 32 (now (nodes .entry)) 0) (natOf (today .0)) (natOf (month .0)) ⌝ }
+{
+    pays::plan_pays(&nodes, &values, today, month, pair, 0, 32)
+}
+
 // What a plan that was read pays: accepted first, its index readings then resolved in the table.
 pub fn paid(
-    nodes: &mut [i64; 2560],
+    nodes: &mut [i64],
     count: usize,
     days: &[i64],
     span: Span,
@@ -58,7 +85,7 @@ pub fn paid(
     match checking {
         Checking::Accepted(length, magnitude) => {
             places::place_rows(nodes, count, span);
-            Paying::Pays(pays::plan_pays(nodes, values, today, month, pair, 0, 32))
+            Paying::Pays(plan_pays(nodes, values, today, month, pair))
         }
         Checking::Refused(refusal) => Paying::Refused(refusal),
     }
@@ -79,6 +106,133 @@ fn asked_of(pair: Pair, today: i64, f: i64, month: i64) -> bool
         )
 }
 
+// The call payment with a table lent for the text's nodes.
+fn payment_in(
+    text: &[u8],
+    nodes: &mut [i64],
+    days: &[i64],
+    span: Span,
+    factors: &[i64],
+    bounds: &[i64],
+    values: &[i64],
+    today: Month,
+    pair: Pair,
+    month: Month,
+) -> Paying
+    requires { ⌜ Roomy (now text) (now nodes) ⌝ }
+    ensures { λ r. ⌜ payingAnswer r ≡ paymentCall (now (text .entry))
+        (givenOf (now (days .entry)) (span .h) (span .f) (now (factors .entry)) (now (bounds .entry)) (now (values .entry))) (today .0) (pair .p) (pair .q) (month .0) ⌝ }
+{
+    let asked = asked_of(pair, today.0, span.f, month.0);
+    let reading = text::read_plan(text, nodes);
+    match reading {
+        Reading::Nodes(count) => paid(
+            nodes,
+            count,
+            days,
+            span,
+            factors,
+            bounds,
+            values,
+            today,
+            pair,
+            month,
+            asked,
+        ),
+        Reading::Refused(refusal) => Paying::Refused(refusal),
+    }
+}
+
+// A text of few bytes has few nodes, and a short table is cleared sooner: 64 rows, 192 or all 512.
+fn brief_payment(
+    text: &[u8],
+    days: &[i64],
+    span: Span,
+    factors: &[i64],
+    bounds: &[i64],
+    values: &[i64],
+    today: Month,
+    pair: Pair,
+    month: Month,
+) -> Paying
+    requires { ⌜ length (now text) ≤ 128 ⌝ }
+    ensures { λ r. ⌜ payingAnswer r ≡ paymentCall (now (text .entry))
+        (givenOf (now (days .entry)) (span .h) (span .f) (now (factors .entry)) (now (bounds .entry)) (now (values .entry))) (today .0) (pair .p) (pair .q) (month .0) ⌝ }
+{
+    let mut nodes = [0i64; 320];
+    payment_in(
+        text,
+        &mut nodes,
+        days,
+        span,
+        factors,
+        bounds,
+        values,
+        today,
+        pair,
+        month,
+    )
+}
+
+fn short_payment(
+    text: &[u8],
+    days: &[i64],
+    span: Span,
+    factors: &[i64],
+    bounds: &[i64],
+    values: &[i64],
+    today: Month,
+    pair: Pair,
+    month: Month,
+) -> Paying
+    requires { ⌜ length (now text) ≤ 384 ⌝ }
+    ensures { λ r. ⌜ payingAnswer r ≡ paymentCall (now (text .entry))
+        (givenOf (now (days .entry)) (span .h) (span .f) (now (factors .entry)) (now (bounds .entry)) (now (values .entry))) (today .0) (pair .p) (pair .q) (month .0) ⌝ }
+{
+    let mut nodes = [0i64; 960];
+    payment_in(
+        text,
+        &mut nodes,
+        days,
+        span,
+        factors,
+        bounds,
+        values,
+        today,
+        pair,
+        month,
+    )
+}
+
+fn long_payment(
+    text: &[u8],
+    days: &[i64],
+    span: Span,
+    factors: &[i64],
+    bounds: &[i64],
+    values: &[i64],
+    today: Month,
+    pair: Pair,
+    month: Month,
+) -> Paying
+    ensures { λ r. ⌜ payingAnswer r ≡ paymentCall (now (text .entry))
+        (givenOf (now (days .entry)) (span .h) (span .f) (now (factors .entry)) (now (bounds .entry)) (now (values .entry))) (today .0) (pair .p) (pair .q) (month .0) ⌝ }
+{
+    let mut nodes = [0i64; 2560];
+    payment_in(
+        text,
+        &mut nodes,
+        days,
+        span,
+        factors,
+        bounds,
+        values,
+        today,
+        pair,
+        month,
+    )
+}
+
 // The pence that p pays q in a month from today to f, the plan's root in month today; or the refusal.
 pub fn payment(
     text: &[u8],
@@ -96,26 +250,45 @@ pub fn payment(
     ensures { λ r. ⌜ payingAnswer r ≡ paymentCall (now (text .entry))
         (givenOf (now (days .entry)) h f (now (factors .entry)) (now (bounds .entry)) (now (values .entry))) today p q month ⌝ }
 {
-    let mut nodes = [0i64; 2560];
+    let span = Span { h: h, f: f };
     let pair = Pair { p: p, q: q };
-    let asked = asked_of(pair, today, f, month);
-    let reading = text::read_plan(text, &mut nodes);
-    match reading {
-        Reading::Nodes(count) => paid(
-            &mut nodes,
-            count,
+    if text.len() <= 128 {
+        return brief_payment(
+            text,
             days,
-            Span { h: h, f: f },
+            span,
             factors,
             bounds,
             values,
             Month(today),
             pair,
             Month(month),
-            asked,
-        ),
-        Reading::Refused(refusal) => Paying::Refused(refusal),
+        );
     }
+    if text.len() <= 384 {
+        return short_payment(
+            text,
+            days,
+            span,
+            factors,
+            bounds,
+            values,
+            Month(today),
+            pair,
+            Month(month),
+        );
+    }
+    long_payment(
+        text,
+        days,
+        span,
+        factors,
+        bounds,
+        values,
+        Month(today),
+        pair,
+        Month(month),
+    )
 }
 
 pub enum Stepping {
@@ -123,9 +296,41 @@ pub enum Stepping {
     Refused(Refusal),
 }
 
+// The walk of the month step from the plan's root, its tables as one pointer each.
+fn step_plan(
+    nodes: &[i64],
+    values: &[i64],
+    bounds: &[i64],
+    span: Span,
+    today: Month,
+    pair: Pair,
+    next: &mut [i64],
+    count: usize,
+) -> Today
+    requires { ⌜ MonthIn (today .0) × PairIn (pair .p) (pair .q) × Ready (span .h) (span .f) (now bounds) (now values) (natOf (today .0)) (now nodes) 0 count 32 × (5 * count ≤ length (now next))
+        × PlanStands 32 (now nodes) 0 × FinePlan (now values) (signOf (pair .p) (pair .q)) (planAt natOf 32 (now nodes) 0) (natOf (today .0)) (natOf (today .0)) ⌝ }
+    ensures { λ r. ⌜ (r .pence .0 ≡ pays (flat (now (values .entry))) (signOf (pair .p) (pair .q)) (planAt natOf 32 (now (nodes .entry)) 0) (natOf (today .0)) (natOf (today .0)))
+        × (r .next ≤ count) × ((y : Ready (span .h) (span .f) (now (bounds .entry)) (now (values .entry)) (natOf (today .0)) (now (nodes .entry)) 0 count 32)
+        → Appended (now (next .entry)) (now (next .exit)) 0 (r .next) (plainRows planForm (planTrees (closed (step (lookupOf (readTable (span .h) (span .f) (now (bounds .entry)) (now (values .entry)))) (natOf (today .0)) (y .plan))) end))) ⌝ }
+{
+    steps::step_plan(
+        &nodes,
+        &values,
+        &bounds,
+        span,
+        today,
+        pair,
+        next,
+        0,
+        0,
+        count,
+        32,
+    )
+}
+
 // The step of a plan that was read: accepted first, then what it pays today and, in a second table, the plan for tomorrow.
 pub fn stepped(
-    nodes: &mut [i64; 2560],
+    nodes: &mut [i64],
     count: usize,
     days: &[i64],
     span: Span,
@@ -161,19 +366,7 @@ pub fn stepped(
     match checking {
         Checking::Accepted(length, magnitude) => {
             places::place_rows(nodes, count, span);
-            let answer = steps::step_plan(
-                nodes,
-                values,
-                bounds,
-                span,
-                today,
-                pair,
-                next,
-                0,
-                0,
-                count,
-                32,
-            );
+            let answer = step_plan(nodes, values, bounds, span, today, pair, next, count);
             let pence = answer.pence;
             let written = writer::write_text(next, answer.next, 8_704, out);
             match written {
@@ -190,6 +383,148 @@ pub fn parties_ok(pair: Pair) -> bool
     ensures { λ r. ⌜ r ≡ pairOk (pair .p) (pair .q) ⌝ }
 {
     tables::party_ok(pair.p) & tables::party_ok(pair.q)
+}
+
+// The call step with two tables lent, for the text's nodes and for those of tomorrow.
+fn step_in(
+    text: &[u8],
+    nodes: &mut [i64],
+    next: &mut [i64],
+    days: &[i64],
+    span: Span,
+    factors: &[i64],
+    bounds: &[i64],
+    values: &[i64],
+    today: Month,
+    pair: Pair,
+    out: &mut [u8],
+) -> Stepping
+    requires { ⌜ Roomy (now text) (now nodes) × (length (now nodes) ≤ length (now next)) ⌝ }
+    ensures { λ r. ⌜ (now (out .exit) ≡ stepCall (now (text .entry))
+        (givenOf (now (days .entry)) (span .h) (span .f) (now (factors .entry)) (now (bounds .entry)) (now (values .entry))) (today .0) (pair .p) (pair .q) (now (out .entry)) .buffer)
+        × (steppingAnswer r ≡ stepCall (now (text .entry))
+        (givenOf (now (days .entry)) (span .h) (span .f) (now (factors .entry)) (now (bounds .entry)) (now (values .entry))) (today .0) (pair .p) (pair .q) (now (out .entry)) .answer) ⌝ }
+{
+    let asked = parties_ok(pair);
+    let reading = text::read_plan(text, nodes);
+    match reading {
+        Reading::Nodes(count) => stepped(
+            nodes,
+            count,
+            days,
+            span,
+            factors,
+            bounds,
+            values,
+            today,
+            pair,
+            asked,
+            next,
+            out,
+        ),
+        Reading::Refused(refusal) => Stepping::Refused(refusal),
+    }
+}
+
+fn brief_step(
+    text: &[u8],
+    days: &[i64],
+    span: Span,
+    factors: &[i64],
+    bounds: &[i64],
+    values: &[i64],
+    today: Month,
+    pair: Pair,
+    out: &mut [u8],
+) -> Stepping
+    requires { ⌜ length (now text) ≤ 128 ⌝ }
+    ensures { λ r. ⌜ (now (out .exit) ≡ stepCall (now (text .entry))
+        (givenOf (now (days .entry)) (span .h) (span .f) (now (factors .entry)) (now (bounds .entry)) (now (values .entry))) (today .0) (pair .p) (pair .q) (now (out .entry)) .buffer)
+        × (steppingAnswer r ≡ stepCall (now (text .entry))
+        (givenOf (now (days .entry)) (span .h) (span .f) (now (factors .entry)) (now (bounds .entry)) (now (values .entry))) (today .0) (pair .p) (pair .q) (now (out .entry)) .answer) ⌝ }
+{
+    let mut nodes = [0i64; 320];
+    let mut next = [0i64; 320];
+    step_in(
+        text,
+        &mut nodes,
+        &mut next,
+        days,
+        span,
+        factors,
+        bounds,
+        values,
+        today,
+        pair,
+        out,
+    )
+}
+
+fn short_step(
+    text: &[u8],
+    days: &[i64],
+    span: Span,
+    factors: &[i64],
+    bounds: &[i64],
+    values: &[i64],
+    today: Month,
+    pair: Pair,
+    out: &mut [u8],
+) -> Stepping
+    requires { ⌜ length (now text) ≤ 384 ⌝ }
+    ensures { λ r. ⌜ (now (out .exit) ≡ stepCall (now (text .entry))
+        (givenOf (now (days .entry)) (span .h) (span .f) (now (factors .entry)) (now (bounds .entry)) (now (values .entry))) (today .0) (pair .p) (pair .q) (now (out .entry)) .buffer)
+        × (steppingAnswer r ≡ stepCall (now (text .entry))
+        (givenOf (now (days .entry)) (span .h) (span .f) (now (factors .entry)) (now (bounds .entry)) (now (values .entry))) (today .0) (pair .p) (pair .q) (now (out .entry)) .answer) ⌝ }
+{
+    let mut nodes = [0i64; 960];
+    let mut next = [0i64; 960];
+    step_in(
+        text,
+        &mut nodes,
+        &mut next,
+        days,
+        span,
+        factors,
+        bounds,
+        values,
+        today,
+        pair,
+        out,
+    )
+}
+
+fn long_step(
+    text: &[u8],
+    days: &[i64],
+    span: Span,
+    factors: &[i64],
+    bounds: &[i64],
+    values: &[i64],
+    today: Month,
+    pair: Pair,
+    out: &mut [u8],
+) -> Stepping
+    ensures { λ r. ⌜ (now (out .exit) ≡ stepCall (now (text .entry))
+        (givenOf (now (days .entry)) (span .h) (span .f) (now (factors .entry)) (now (bounds .entry)) (now (values .entry))) (today .0) (pair .p) (pair .q) (now (out .entry)) .buffer)
+        × (steppingAnswer r ≡ stepCall (now (text .entry))
+        (givenOf (now (days .entry)) (span .h) (span .f) (now (factors .entry)) (now (bounds .entry)) (now (values .entry))) (today .0) (pair .p) (pair .q) (now (out .entry)) .answer) ⌝ }
+{
+    let mut nodes = [0i64; 2560];
+    let mut next = [0i64; 2560];
+    step_in(
+        text,
+        &mut nodes,
+        &mut next,
+        days,
+        span,
+        factors,
+        bounds,
+        values,
+        today,
+        pair,
+        out,
+    )
 }
 
 // The pence that p pays q today, and the plan for tomorrow from the first byte of `out` on; a refusal leaves every byte as it was.
@@ -213,47 +548,43 @@ pub fn step(
         × (steppingAnswer r ≡ stepCall (now (text .entry))
         (givenOf (now (days .entry)) h f (now (factors .entry)) (now (bounds .entry)) (now (values .entry))) today p q (now (out .entry)) .answer) ⌝ }
 {
-    let mut nodes = [0i64; 2560];
-    let parties = Pair { p: p, q: q };
-    let asked = parties_ok(parties);
-    let reading = text::read_plan(text, &mut nodes);
-    match reading {
-        Reading::Nodes(count) => {
-            // few rows need a short table only, which is cleared sooner
-            if count <= 128 {
-                let mut next = [0i64; 640];
-                stepped(
-                    &mut nodes,
-                    count,
-                    days,
-                    Span { h: h, f: f },
-                    factors,
-                    bounds,
-                    values,
-                    Month(today),
-                    parties,
-                    asked,
-                    &mut next,
-                    out,
-                )
-            } else {
-                let mut next = [0i64; 2560];
-                stepped(
-                    &mut nodes,
-                    count,
-                    days,
-                    Span { h: h, f: f },
-                    factors,
-                    bounds,
-                    values,
-                    Month(today),
-                    parties,
-                    asked,
-                    &mut next,
-                    out,
-                )
-            }
-        }
-        Reading::Refused(refusal) => Stepping::Refused(refusal),
+    let span = Span { h: h, f: f };
+    let pair = Pair { p: p, q: q };
+    if text.len() <= 128 {
+        return brief_step(
+            text,
+            days,
+            span,
+            factors,
+            bounds,
+            values,
+            Month(today),
+            pair,
+            out,
+        );
     }
+    if text.len() <= 384 {
+        return short_step(
+            text,
+            days,
+            span,
+            factors,
+            bounds,
+            values,
+            Month(today),
+            pair,
+            out,
+        );
+    }
+    long_step(
+        text,
+        days,
+        span,
+        factors,
+        bounds,
+        values,
+        Month(today),
+        pair,
+        out,
+    )
 }

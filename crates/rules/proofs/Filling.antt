@@ -9,7 +9,7 @@ use mathlib.Core.Path.{_∙_, _≡_, ap, subst, sym}
 use native.Mathlib.Omega.{arith}
 use Rattle.language.proofs.Rules.Tables.{setting-small}
 use Rattle.language.proofs.Text.Form.{formed-map, nodes-map}
-use Rattle.language.specs.Limits.{maxMonths}
+use Rattle.language.specs.Limits.{maxMonths, maxNodes}
 use Rattle.language.specs.Rules.Settings.{allSet, closed, delayOf, fill}
 use Rattle.language.specs.Rules.Table.{settingAt, settingsOk}
 use Rattle.language.specs.Text.Form.{Formed, delayInForm, filledInForm}
@@ -39,6 +39,9 @@ module _ {nodes : List ℤ} {count : ℕ} {x : Plan Delay} (s : Standing nodes c
 
   pub standing-rows : 5 * count ≤ length nodes
   standing-rows = omega (arith, ap length whole, length-append (rows planForm (planTrees x end)) (drop (5 * count) nodes), rows-length planForm (planTrees x end), s .counted)
+
+  pub standing-few : count ≤ maxNodes
+  standing-few = omega (arith, s .counted, plan-rows x (s .formed))
 
   pub laid : Laid planForm nodes 0 (planTrees x end)
   laid = record { rest = drop (5 * count) nodes; is = whole; room = omega (arith, plan-rows x (s .formed)) }

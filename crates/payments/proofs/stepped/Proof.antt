@@ -1,8 +1,7 @@
-use lib.ListN.{length}
-use mathlib.Core.Path.{_∙_, _≡_, ap, sym}
+use mathlib.Core.Path.{_∙_, ap, sym}
 use native.Mathlib.Omega.{arith}
 use Rattle.payments.proofs.StepPlaced.{answer-is, buffer-is, fine, pair-is, pence-are, placing, ready, refusal-is, refusal-keeps, rows-in, span-in, stands, text-short, today-is, with-bytes, without-room}
-use Rattle.rules.proofs.Filling.{standing-rows}
+use Rattle.rules.proofs.Filling.{standing-few, standing-rows}
 use Rattle.writer.specs.Answers.{writtenAnswer}
 use borrow.Author.Needs.{needs}
 use Rattle.payments.proofs.stepped.Statement.{statement}
@@ -17,28 +16,27 @@ enum-known-checking c = search needs
 
 place-rows-requires : tie.Need-place-rows-requires
 place-rows-requires c κs =
-    let s = c .before .before .before .before .before .before .before in
+    let s = c .before .before .before .before .before .before .before .before in
     let a = s .args in
-    let w = placing (a .pair .p) (a .pair .q) (c .before .before .before .before .accept .ensures) (s .pre .1) (c .before .before .checking .given .1) (s .pre .0 .standing) in
-    let e : length (c .before .before .before .before .accept .last .0) ≡ 2560 = search needs in
-    (omega (arith, standing-rows (s .pre .0 .standing)), span-in w, rows-in w)
+    let w = placing (a .pair .p) (a .pair .q) (c .before .before .before .before .before .accept .ensures) (s .pre .1) (c .before .before .checking .given .1) (s .pre .0 .standing) in
+    (standing-rows (c .before .before .before .before .before .accept .ensures .filled _ _ (c .before .before .checking .given .1) (s .pre .0 .plan) (s .pre .0 .standing)), span-in w, rows-in w)
 
 step-plan-requires : tie.Need-step-plan-requires
 step-plan-requires c κs =
-    let s = c .before .before .before .before .before .before .before .before .before .before in
+    let s = c .before .before .before .before .before .before .before .before .before .before .before .before in
     let a = s .args in
-    let w = placing (a .pair .p) (a .pair .q) (c .before .before .before .before .before .before .before .accept .ensures) (s .pre .1) (c .before .before .before .before .before .checking .given .1) (s .pre .0 .standing) in
-    let r = c .before .before .place-rows in
+    let w = placing (a .pair .p) (a .pair .q) (c .before .before .before .before .before .before .before .before .before .accept .ensures) (s .pre .1) (c .before .before .before .before .before .before .checking .given .1) (s .pre .0 .standing) in
+    let r = c .before .before .before .place-rows in
     (today-is w, pair-is w, ready w (r .last .0) (r .ensures), omega (arith, s .pre .2), stands w (r .last .0) (r .ensures), fine w (r .last .0) (r .ensures))
 
 write-text-requires : tie.Need-write-text-requires
 write-text-requires c κs =
-    let s = c .before .before .before .before .before .before .before .before .before .before .before .before .before .before .before in
+    let s = c .before .before .before .before .before .before .before .before .before .before .before .before .before .before .before .before .before in
     let n = c .before .before .before .before .step-plan .ensures .1 in
     let e = c .before .before .before .before .step-plan .kept .1 .1 .1 .1 .1 .1 .0 in
-    let w = placing (s .args .pair .p) (s .args .pair .q) (c .before .before .before .before .before .before .before .before .before .before .before .before .accept .ensures) (s .pre .1) (c .before .before .before .before .before .before .before .before .before .before .checking .given .1) (s .pre .0 .standing) in
-    let r = c .before .before .before .before .before .before .before .place-rows in
-    (omega (arith, s .pre .2, n, e), omega (arith, standing-rows (s .pre .0 .standing), n), text-short w (r .last .0) (r .ensures) _ _ _ (c .before .before .before .before .step-plan .ensures .2))
+    let w = placing (s .args .pair .p) (s .args .pair .q) (c .before .before .before .before .before .before .before .before .before .before .before .before .before .before .accept .ensures) (s .pre .1) (c .before .before .before .before .before .before .before .before .before .before .before .checking .given .1) (s .pre .0 .standing) in
+    let r = c .before .before .before .before .before .before .before .before .place-rows in
+    (omega (arith, s .pre .2, n, e), omega (arith, standing-few (s .pre .0 .standing), n), text-short w (r .last .0) (r .ensures) _ _ _ (c .before .before .before .before .step-plan .ensures .2))
 
 enum-known-written : tie.Need-enum-known-written
 enum-known-written c = search needs
@@ -55,12 +53,15 @@ same-length c = search needs
 same-length-2 : tie.Need-same-length-2
 same-length-2 c = search needs
 
+same-length-3 : tie.Need-same-length-3
+same-length-3 c = search needs
+
 returns : tie.Need-returns
 returns c x y =
-    let s = c .before .before .before .before .before .before .before .before .before .before .before .before .before .before .before .before .before .before .before .before .before in
+    let s = c .before .before .before .before .before .before .before .before .before .before .before .before .before .before .before .before .before .before .before .before .before .before .before in
     let a = s .args in
-    let w = placing (a .pair .p) (a .pair .q) (c .before .before .before .before .before .before .before .before .before .before .before .before .before .before .before .before .before .before .accept .ensures) (s .pre .1) (c .before .before .before .before .before .before .before .before .before .before .before .before .before .before .before .before .checking .given .1) y in
-    let r = c .before .before .before .before .before .before .before .before .before .before .before .before .before .place-rows in
+    let w = placing (a .pair .p) (a .pair .q) (c .before .before .before .before .before .before .before .before .before .before .before .before .before .before .before .before .before .before .before .before .accept .ensures) (s .pre .1) (c .before .before .before .before .before .before .before .before .before .before .before .before .before .before .before .before .before .checking .given .1) y in
+    let r = c .before .before .before .before .before .before .before .before .before .before .before .before .before .before .place-rows in
     let k = c .before .before .before .before .before .before .before .before .before .before .step-plan in
     let o = c .before .before .before .before .before .write-text in
     let v = pence-are w (r .last .0) (r .ensures) (k .ensures .0) in (
@@ -68,18 +69,21 @@ returns c x y =
       with-bytes (k .result .pence) _ ∙ answer-is w (r .last .0) (r .ensures) _ _ _ (k .ensures .2) (a .out .now) v _ (ap writtenAnswer (sym (c .before .written .given .1)) ∙ o .ensures .1),
     )
 
-same-length-3 : tie.Need-same-length-3
-same-length-3 c = search needs
-
 same-length-4 : tie.Need-same-length-4
 same-length-4 c = search needs
 
+same-length-5 : tie.Need-same-length-5
+same-length-5 c = search needs
+
+same-length-6 : tie.Need-same-length-6
+same-length-6 c = search needs
+
 returns-2 : tie.Need-returns-2
 returns-2 c x y =
-    let s = c .before .before .before .before .before .before .before .before .before .before .before .before .before .before .before .before .before .before .before .before in
+    let s = c .before .before .before .before .before .before .before .before .before .before .before .before .before .before .before .before .before .before .before .before .before .before in
     let a = s .args in
-    let w = placing (a .pair .p) (a .pair .q) (c .before .before .before .before .before .before .before .before .before .before .before .before .before .before .before .before .before .accept .ensures) (s .pre .1) (c .before .before .before .before .before .before .before .before .before .before .before .before .before .before .before .checking .given .1) y in
-    let r = c .before .before .before .before .before .before .before .before .before .before .before .before .place-rows in
+    let w = placing (a .pair .p) (a .pair .q) (c .before .before .before .before .before .before .before .before .before .before .before .before .before .before .before .before .before .before .before .accept .ensures) (s .pre .1) (c .before .before .before .before .before .before .before .before .before .before .before .before .before .before .before .before .checking .given .1) y in
+    let r = c .before .before .before .before .before .before .before .before .before .before .before .before .before .place-rows in
     let k = c .before .before .before .before .before .before .before .before .before .step-plan in
     let o = c .before .before .before .before .write-text in
     let v = pence-are w (r .last .0) (r .ensures) (k .ensures .0) in (
@@ -87,12 +91,15 @@ returns-2 c x y =
       without-room (k .result .pence) ∙ answer-is w (r .last .0) (r .ensures) _ _ _ (k .ensures .2) (a .out .now) v _ (ap writtenAnswer (sym (c .enum-told .given .1)) ∙ o .ensures .1),
     )
 
+same-length-7 : tie.Need-same-length-7
+same-length-7 c = search needs
+
 returns-3 : tie.Need-returns-3
 returns-3 c x y =
-    let s = c .before .before .before .before .before .before in
+    let s = c .before .before .before .before .before .before .before in
     let a = s .args in (
-      refusal-keeps (a .pair .p) (a .pair .q) (c .before .before .before .accept .ensures) (s .pre .1) (c .before .checking2 .given .1) y (a .out .now),
-      refusal-is (a .pair .p) (a .pair .q) (c .before .before .before .accept .ensures) (s .pre .1) (c .before .checking2 .given .1) y (a .out .now),
+      refusal-keeps (a .pair .p) (a .pair .q) (c .before .before .before .before .accept .ensures) (s .pre .1) (c .before .checking2 .given .1) y (a .out .now),
+      refusal-is (a .pair .p) (a .pair .q) (c .before .before .before .before .accept .ensures) (s .pre .1) (c .before .checking2 .given .1) y (a .out .now),
     )
 
 pub stepped-spec : {M : Type 1} → statement M
@@ -109,8 +116,11 @@ stepped-spec =
     enum-known-checking-2
     same-length
     same-length-2
-    returns
     same-length-3
+    returns
     same-length-4
+    same-length-5
+    same-length-6
     returns-2
+    same-length-7
     returns-3)
