@@ -143,7 +143,7 @@ fn payment_in(
     }
 }
 
-// A text of few bytes has few nodes, and a short table is cleared sooner: 64 rows, 192 or all 512.
+// A text of few bytes has few nodes, and a short table is cleared sooner: 96 rows, 192 or all 512.
 fn brief_payment(
     text: &[u8],
     days: &[i64],
@@ -155,11 +155,11 @@ fn brief_payment(
     pair: Pair,
     month: Month,
 ) -> Paying
-    requires { ⌜ length (now text) ≤ 128 ⌝ }
+    requires { ⌜ length (now text) ≤ 192 ⌝ }
     ensures { λ r. ⌜ payingAnswer r ≡ paymentCall (now (text .entry))
         (givenOf (now (days .entry)) (span .h) (span .f) (now (factors .entry)) (now (bounds .entry)) (now (values .entry))) (today .0) (pair .p) (pair .q) (month .0) ⌝ }
 {
-    let mut nodes = [0i64; 320];
+    let mut nodes = [0i64; 480];
     payment_in(
         text,
         &mut nodes,
@@ -252,7 +252,7 @@ pub fn payment(
 {
     let span = Span { h: h, f: f };
     let pair = Pair { p: p, q: q };
-    if text.len() <= 128 {
+    if text.len() <= 192 {
         return brief_payment(
             text,
             days,
@@ -437,14 +437,14 @@ fn brief_step(
     pair: Pair,
     out: &mut [u8],
 ) -> Stepping
-    requires { ⌜ length (now text) ≤ 128 ⌝ }
+    requires { ⌜ length (now text) ≤ 192 ⌝ }
     ensures { λ r. ⌜ (now (out .exit) ≡ stepCall (now (text .entry))
         (givenOf (now (days .entry)) (span .h) (span .f) (now (factors .entry)) (now (bounds .entry)) (now (values .entry))) (today .0) (pair .p) (pair .q) (now (out .entry)) .buffer)
         × (steppingAnswer r ≡ stepCall (now (text .entry))
         (givenOf (now (days .entry)) (span .h) (span .f) (now (factors .entry)) (now (bounds .entry)) (now (values .entry))) (today .0) (pair .p) (pair .q) (now (out .entry)) .answer) ⌝ }
 {
-    let mut nodes = [0i64; 320];
-    let mut next = [0i64; 320];
+    let mut nodes = [0i64; 480];
+    let mut next = [0i64; 480];
     step_in(
         text,
         &mut nodes,
@@ -550,7 +550,7 @@ pub fn step(
 {
     let span = Span { h: h, f: f };
     let pair = Pair { p: p, q: q };
-    if text.len() <= 128 {
+    if text.len() <= 192 {
         return brief_step(
             text,
             days,

@@ -1,7 +1,7 @@
 -- The call compile: a text that is read is compiled into a second table, and its rows are written.
 use Prim.Native.Nat.{_*_, _≤_, ℕ}
 use lib.IntN.{pos, ℤ}
-use lib.ListN.{drop, length, take-append-drop}
+use lib.ListN.{drop, length, length-append, take-append-drop}
 use mathlib.Core.List.{List, _++_}
 use mathlib.Core.Path.{_∙_, _≡_, ap, refl, sym}
 use native.Mathlib.Nat.{zero-add}
@@ -22,6 +22,7 @@ use Rattle.language.specs.Text.Plans.{payoffTrees, planTrees, printPayoff, read
 use Rattle.language.specs.Text.Reader.{end, readText}
 use Rattle.language.specs.Text.Trees.{start}
 use Rattle.nodes.proofs.Counts.{plan-rows}
+use Rattle.nodes.proofs.Laid.{rows-length}
 use Rattle.nodes.specs.Rows.{countOf, rows, settingsSlot}
 use Rattle.payoff.specs.Answers.{writingAnswer}
 use Rattle.payoff.specs.declared.Writing.the-variants.{Refused}
@@ -45,6 +46,10 @@ module _ (text : List ℕ) where
 
     whole : nodes ≡ rows planForm (planTrees (was .plan) end) ++ drop (5 * n) nodes
     whole = sym (take-append-drop (5 * n) nodes) ∙ ap (λ x. x ++ drop (5 * n) nodes) (s .rows ∙ ap (rows planForm) (was .trees))
+
+    -- the rows that were read lie in the table
+    pub in-table : 5 * n ≤ length nodes
+    in-table = omega (arith, ap length whole, length-append (rows planForm (planTrees (was .plan) end)) (drop (5 * n) nodes), rows-length planForm (planTrees (was .plan) end), counted)
 
     -- the plan can be compiled from its first row on
     pub ready : Ready (pos 0) (pos 0) nodes 0 n 32

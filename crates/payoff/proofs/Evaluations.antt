@@ -1,7 +1,7 @@
 -- Evaluating a payoff that stands in the table, step by step in document 01's order.
 use Prim.Native.Nat.{_*_, _≤_, ℕ}
 use lib.IntN.{ℤ}
-use lib.ListN.{drop, take-append-drop}
+use lib.ListN.{drop, length, length-append, take-append-drop}
 use mathlib.Core.Bool.{_&&_, false, true}
 use mathlib.Core.List.{List, _++_}
 use mathlib.Core.Path.{_∙_, _≡_, ap, ap₂, refl, subst, sym}
@@ -11,7 +11,6 @@ use Rattle.language.proofs.Text.Payoffs.{PayoffRead, payoff-read, payoff-trees}
 use Rattle.language.proofs.Truth.{and-e}
 use Rattle.language.specs.Answer.{refused}
 use Rattle.language.specs.Calls.{Given, evaluate, evaluateCall, pairOk}
-use Rattle.language.specs.Limits.{maxNodes}
 use Rattle.language.specs.Payoff.Evaluate.{fillPayoff}
 use Rattle.language.specs.Payoff.Settings.{payoffSet}
 use Rattle.language.specs.Rules.Table.{monthOk, settingAt, settingsOk, tableOk}
@@ -19,7 +18,7 @@ use Rattle.language.specs.Text.Letters.{payoffForm}
 use Rattle.language.specs.Text.Plans.{Written, payoffTrees, printPayoff, readPayoff}
 use Rattle.language.specs.Text.Reader.{end, readText}
 use Rattle.nodes.proofs.AmountsFound.{Finds}
-use Rattle.nodes.proofs.Counts.{payoff-rows}
+use Rattle.nodes.proofs.Laid.{rows-length}
 use Rattle.nodes.specs.Found.{offsetOf, payoffAt}
 use Rattle.nodes.specs.Pass.{allRows, mapRows}
 use Rattle.nodes.specs.Rows.{countOf, rows}
@@ -50,8 +49,8 @@ module _ {nodes : List ℤ} {count : ℕ} {x : Written} (s : Standing nodes coun
   whole : nodes ≡ rows payoffForm (payoffTrees x end) ++ drop (5 * count) nodes
   whole = sym (take-append-drop (5 * count) nodes) ∙ ap (λ y. y ++ drop (5 * count) nodes) (s .lies)
 
-  pub standing-rows : 5 * count ≤ 5 * maxNodes
-  standing-rows = omega (arith, s .counted, payoff-rows x (s .formed))
+  pub standing-rows : 5 * count ≤ length nodes
+  standing-rows = omega (arith, ap length whole, length-append (rows payoffForm (payoffTrees x end)) (drop (5 * count) nodes), rows-length payoffForm (payoffTrees x end), s .counted)
 
   pub standing-in : allRows rowIn count nodes ≡ true
   standing-in = ap₂ (allRows rowIn) (s .counted) whole ∙ settled.rows-in nodes x (drop (5 * count) nodes) (s .formed .fields)

@@ -4,16 +4,26 @@ ghost use Prim.Native.Nat.{_*_, _≤_};
 ghost use lib.ListN.{drop, length};
 ghost use mathlib.Core.Bool.{_&&_, _||_, false};
 ghost use mathlib.Core.List.{map};
+ghost use lib.Dec.{T};
 ghost use lib.IntN.{pos};
+ghost use lib.Signed.{nonNeg};
 ghost use Rattle.language.specs.Calls.{compileCall, cutCall, evaluateCall, over, pairOk};
 ghost use Rattle.language.specs.Text.Number.{between};
+ghost use Rattle.nodes.specs.Found.{offsetOf, payoffAt};
+ghost use Rattle.nodes.specs.Stands.{PayoffStands};
+ghost use Rattle.nodes.specs.Table.{natOf};
 ghost use Rattle.payoff.specs.Answers.{writingAnswer};
 ghost use Rattle.payoff.specs.Compiling.{PlanRows};
 ghost use Rattle.payoff.specs.Cut.{cutByte};
 ghost use Rattle.payoff.specs.Evaluating.{EvaluateIs, Stands, evaluatingAnswer, givenOf};
 ghost use Rattle.payoff.specs.Opens.{opens};
+ghost use Rattle.pays.specs.Parties.{PairIn};
 ghost use Rattle.settling.specs.Settle.{Settled};
+ghost use Rattle.tables.specs.Given.{tableOf};
+ghost use Rattle.text.specs.Room.{Roomy};
 ghost use Rattle.worths.specs.Answers.{worthAnswer};
+ghost use Rattle.worths.specs.Checked.{worthIn};
+ghost use Rattle.worths.specs.Ranges.{FieldsIn, Payable, Readable};
 ghost use Rattle.writer.specs.Answers.{writtenAnswer};
 use compiles::months::Months;
 use integers::Millionths;
@@ -82,7 +92,7 @@ pub fn cut(text: &[u8], out: &mut [u8]) -> Writing
 }
 
 // The payoff of a plan that was read, compiled into a second table and written from there.
-fn compiled(nodes: &[i64; 2560], count: usize, next: &mut [i64], out: &mut [u8]) -> Writing
+fn compiled(nodes: &[i64], count: usize, next: &mut [i64], out: &mut [u8]) -> Writing
     requires { ⌜ PlanRows (now nodes) count × (5 * count ≤ length (now next)) ⌝ }
     ensures { λ r. ⌜ ((y : PlanRows (now (nodes .entry)) count) → (now (out .exit) ≡ compileCall (y .text) (now (out .entry)) .buffer)
         × (writingAnswer r ≡ compileCall (y .text) (now (out .entry)) .answer)) ⌝ }
@@ -91,8 +101,51 @@ fn compiled(nodes: &[i64; 2560], count: usize, next: &mut [i64], out: &mut [u8])
         plain: 0,
         digits: 0,
     };
-    let n = compiles::compile_plan(nodes, next, 0, 0, count, start, 32);
+    let n = compiles::compile_plan(&nodes, next, 0, 0, count, start, 32);
     told(writer::write_text(next, n, 53_760, out))
+}
+
+// The call compile with two tables lent, for the text's nodes and for its payoff's.
+fn compile_in(text: &[u8], nodes: &mut [i64], next: &mut [i64], out: &mut [u8]) -> Writing
+    requires { ⌜ Roomy (now text) (now nodes) × (length (now nodes) ≤ length (now next)) ⌝ }
+    ensures { λ r. ⌜ (now (out .exit) ≡ compileCall (now (text .entry)) (now (out .entry)) .buffer)
+        × (writingAnswer r ≡ compileCall (now (text .entry)) (now (out .entry)) .answer) ⌝ }
+{
+    let reading = text::read_plan(text, nodes);
+    match reading {
+        Reading::Nodes(count) => compiled(nodes, count, next, out),
+        Reading::Refused(refusal) => Writing::Refused(refusal),
+    }
+}
+
+// A text of few bytes has few nodes, and short tables are cleared sooner: 96 rows, 192 or all 512.
+fn brief_compile(text: &[u8], out: &mut [u8]) -> Writing
+    requires { ⌜ length (now text) ≤ 192 ⌝ }
+    ensures { λ r. ⌜ (now (out .exit) ≡ compileCall (now (text .entry)) (now (out .entry)) .buffer)
+        × (writingAnswer r ≡ compileCall (now (text .entry)) (now (out .entry)) .answer) ⌝ }
+{
+    let mut nodes = [0i64; 480];
+    let mut next = [0i64; 480];
+    compile_in(text, &mut nodes, &mut next, out)
+}
+
+fn short_compile(text: &[u8], out: &mut [u8]) -> Writing
+    requires { ⌜ length (now text) ≤ 384 ⌝ }
+    ensures { λ r. ⌜ (now (out .exit) ≡ compileCall (now (text .entry)) (now (out .entry)) .buffer)
+        × (writingAnswer r ≡ compileCall (now (text .entry)) (now (out .entry)) .answer) ⌝ }
+{
+    let mut nodes = [0i64; 960];
+    let mut next = [0i64; 960];
+    compile_in(text, &mut nodes, &mut next, out)
+}
+
+fn long_compile(text: &[u8], out: &mut [u8]) -> Writing
+    ensures { λ r. ⌜ (now (out .exit) ≡ compileCall (now (text .entry)) (now (out .entry)) .buffer)
+        × (writingAnswer r ≡ compileCall (now (text .entry)) (now (out .entry)) .answer) ⌝ }
+{
+    let mut nodes = [0i64; 2560];
+    let mut next = [0i64; 2560];
+    compile_in(text, &mut nodes, &mut next, out)
 }
 
 // The plan's payoff, written from the first byte of `out` on; a refusal leaves every byte as it was.
@@ -100,21 +153,13 @@ pub fn compile(text: &[u8], out: &mut [u8]) -> Writing
     ensures { λ r. ⌜ (now (out .exit) ≡ compileCall (now (text .entry)) (now (out .entry)) .buffer)
         × (writingAnswer r ≡ compileCall (now (text .entry)) (now (out .entry)) .answer) ⌝ }
 {
-    let mut nodes = [0i64; 2560];
-    let reading = text::read_plan(text, &mut nodes);
-    match reading {
-        Reading::Nodes(count) => {
-            // few rows need a short table only, which is cleared sooner
-            if count <= 128 {
-                let mut next = [0i64; 640];
-                compiled(&nodes, count, &mut next, out)
-            } else {
-                let mut next = [0i64; 2560];
-                compiled(&nodes, count, &mut next, out)
-            }
-        }
-        Reading::Refused(refusal) => Writing::Refused(refusal),
+    if text.len() <= 192 {
+        return brief_compile(text, out);
     }
+    if text.len() <= 384 {
+        return short_compile(text, out);
+    }
+    long_compile(text, out)
 }
 
 // ---- evaluating
@@ -168,9 +213,38 @@ fn has_open(text: &[u8]) -> bool
     part_opens(text, at, text.len())
 }
 
+// What the payoff in the table's first row is worth: no month is waited there.
+fn worth_of(
+    nodes: &[i64],
+    factors: &[i64],
+    values: &[i64],
+    bounds: &[i64],
+    span: Span,
+    month: Month,
+    pair: Pair,
+) -> Worth
+    requires { ⌜ Readable (span .h) (span .f) (now bounds) (now values) × Payable (span .f) (now factors) × T (nonNeg (month .0)) × PairIn (pair .p) (pair .q)
+        × PayoffStands 32 (now nodes) 0 × FieldsIn (payoffAt natOf offsetOf 32 (now nodes) 0) ⌝ }
+    ensures { λ r. ⌜ worthAnswer r ≡ worthIn (tableOf (span .h) (span .f) (now (factors .entry)) (now (bounds .entry)) (now (values .entry))) (pair .p) (pair .q) (natOf (month .0))
+        (payoffAt natOf offsetOf 32 (now (nodes .entry)) 0) 0 ⌝ }
+{
+    payoffs::payoff_worth(
+        &nodes,
+        factors,
+        &values,
+        &bounds,
+        span,
+        Month(0),
+        month,
+        pair,
+        0,
+        32,
+    )
+}
+
 // A payoff that was read: 9, 12, 8, then its value. Its open settings, where it uses any, are filled in the table.
 pub fn evaluate_nodes(
-    nodes: &mut [i64; 2560],
+    nodes: &mut [i64],
     count: usize,
     days: &[i64],
     span: Span,
@@ -191,17 +265,14 @@ pub fn evaluate_nodes(
             if tables::settings_ok(days) {
                 let filling = settling::settle_open(nodes, count, days, used);
                 match filling {
-                    Filling::Filled => evaluated(payoffs::payoff_worth(
+                    Filling::Filled => evaluated(worth_of(
                         nodes,
                         factors,
                         values,
                         bounds,
                         span,
-                        Month(0),
                         month,
                         pair,
-                        0,
-                        32,
                     )),
                     Filling::Unset => Evaluating::Refused(Refusal::Settings),
                 }
@@ -214,6 +285,124 @@ pub fn evaluate_nodes(
     } else {
         Evaluating::Refused(Refusal::Table)
     }
+}
+
+// The call evaluate with a table lent for the text's nodes.
+fn evaluate_in(
+    text: &[u8],
+    nodes: &mut [i64],
+    days: &[i64],
+    span: Span,
+    factors: &[i64],
+    bounds: &[i64],
+    values: &[i64],
+    month: Month,
+    pair: Pair,
+) -> Evaluating
+    requires { ⌜ Roomy (now text) (now nodes) ⌝ }
+    ensures { λ r. ⌜ evaluatingAnswer r ≡ evaluateCall (now (text .entry))
+        (givenOf (now (days .entry)) (span .h) (span .f) (now (factors .entry)) (now (bounds .entry)) (now (values .entry))) (pair .p) (pair .q) (month .0) ⌝ }
+{
+    let reading = text::read_payoff(text, nodes);
+    match reading {
+        Reading::Nodes(count) => evaluate_nodes(
+            nodes,
+            count,
+            days,
+            span,
+            factors,
+            bounds,
+            values,
+            month,
+            pair,
+            has_open(text),
+        ),
+        Reading::Refused(refusal) => Evaluating::Refused(refusal),
+    }
+}
+
+// A text of few bytes has few nodes, and a short table is cleared sooner: 96 rows, 192 or all 512.
+fn brief_evaluate(
+    text: &[u8],
+    days: &[i64],
+    span: Span,
+    factors: &[i64],
+    bounds: &[i64],
+    values: &[i64],
+    month: Month,
+    pair: Pair,
+) -> Evaluating
+    requires { ⌜ length (now text) ≤ 192 ⌝ }
+    ensures { λ r. ⌜ evaluatingAnswer r ≡ evaluateCall (now (text .entry))
+        (givenOf (now (days .entry)) (span .h) (span .f) (now (factors .entry)) (now (bounds .entry)) (now (values .entry))) (pair .p) (pair .q) (month .0) ⌝ }
+{
+    let mut nodes = [0i64; 480];
+    evaluate_in(
+        text,
+        &mut nodes,
+        days,
+        span,
+        factors,
+        bounds,
+        values,
+        month,
+        pair,
+    )
+}
+
+fn short_evaluate(
+    text: &[u8],
+    days: &[i64],
+    span: Span,
+    factors: &[i64],
+    bounds: &[i64],
+    values: &[i64],
+    month: Month,
+    pair: Pair,
+) -> Evaluating
+    requires { ⌜ length (now text) ≤ 384 ⌝ }
+    ensures { λ r. ⌜ evaluatingAnswer r ≡ evaluateCall (now (text .entry))
+        (givenOf (now (days .entry)) (span .h) (span .f) (now (factors .entry)) (now (bounds .entry)) (now (values .entry))) (pair .p) (pair .q) (month .0) ⌝ }
+{
+    let mut nodes = [0i64; 960];
+    evaluate_in(
+        text,
+        &mut nodes,
+        days,
+        span,
+        factors,
+        bounds,
+        values,
+        month,
+        pair,
+    )
+}
+
+fn long_evaluate(
+    text: &[u8],
+    days: &[i64],
+    span: Span,
+    factors: &[i64],
+    bounds: &[i64],
+    values: &[i64],
+    month: Month,
+    pair: Pair,
+) -> Evaluating
+    ensures { λ r. ⌜ evaluatingAnswer r ≡ evaluateCall (now (text .entry))
+        (givenOf (now (days .entry)) (span .h) (span .f) (now (factors .entry)) (now (bounds .entry)) (now (values .entry))) (pair .p) (pair .q) (month .0) ⌝ }
+{
+    let mut nodes = [0i64; 2560];
+    evaluate_in(
+        text,
+        &mut nodes,
+        days,
+        span,
+        factors,
+        bounds,
+        values,
+        month,
+        pair,
+    )
 }
 
 // What a payoff is worth to the pair (p, q) in millionths of a penny, `month` being the month now, or the refusal.
@@ -232,21 +421,40 @@ pub fn evaluate(
     ensures { λ r. ⌜ evaluatingAnswer r ≡ evaluateCall (now (text .entry))
         (givenOf (now (days .entry)) h f (now (factors .entry)) (now (bounds .entry)) (now (values .entry))) p q month ⌝ }
 {
-    let mut nodes = [0i64; 2560];
-    let reading = text::read_payoff(text, &mut nodes);
-    match reading {
-        Reading::Nodes(count) => evaluate_nodes(
-            &mut nodes,
-            count,
+    let span = Span { h: h, f: f };
+    let pair = Pair { p: p, q: q };
+    if text.len() <= 192 {
+        return brief_evaluate(
+            text,
             days,
-            Span { h: h, f: f },
+            span,
             factors,
             bounds,
             values,
             Month(month),
-            Pair { p: p, q: q },
-            has_open(text),
-        ),
-        Reading::Refused(refusal) => Evaluating::Refused(refusal),
+            pair,
+        );
     }
+    if text.len() <= 384 {
+        return short_evaluate(
+            text,
+            days,
+            span,
+            factors,
+            bounds,
+            values,
+            Month(month),
+            pair,
+        );
+    }
+    long_evaluate(
+        text,
+        days,
+        span,
+        factors,
+        bounds,
+        values,
+        Month(month),
+        pair,
+    )
 }

@@ -127,7 +127,7 @@ fn check_in(
     }
 }
 
-// A text of few bytes has few nodes, and a short table is cleared sooner: 64 rows, 192 or all 512.
+// A text of few bytes has few nodes, and a short table is cleared sooner: 96 rows, 192 or all 512.
 fn brief_check(
     text: &[u8],
     days: &[i64],
@@ -137,11 +137,11 @@ fn brief_check(
     values: &[i64],
     today: Month,
 ) -> Checking
-    requires { ⌜ length (now text) ≤ 128 ⌝ }
+    requires { ⌜ length (now text) ≤ 192 ⌝ }
     ensures { λ r. ⌜ (checkingAnswer r ≡ checkCall (now (text .entry))
         (givenOf (now (days .entry)) (span .h) (span .f) (now (factors .entry)) (now (bounds .entry)) (now (values .entry))) (today .0)) × Natural r ⌝ }
 {
-    let mut nodes = [0i64; 320];
+    let mut nodes = [0i64; 480];
     check_in(text, &mut nodes, days, span, factors, bounds, values, today)
 }
 
@@ -193,7 +193,7 @@ pub fn check(
         (givenOf (now (days .entry)) h f (now (factors .entry)) (now (bounds .entry)) (now (values .entry))) today) × Natural r ⌝ }
 {
     let span = Span { h: h, f: f };
-    if text.len() <= 128 {
+    if text.len() <= 192 {
         return brief_check(text, days, span, factors, bounds, values, Month(today));
     }
     if text.len() <= 384 {

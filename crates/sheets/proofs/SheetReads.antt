@@ -147,6 +147,9 @@ module _ {input : List ℕ} {days factors bounds values : List ℤ} {sheet : She
         let b = and-e (leb (sheet .labels) 8) (leb (sheet .values) 5288) (a .1) in
         (leb-true (sheet .factors) 601 (a .0), leb-true (sheet .labels) 8 (b .0), leb-true (sheet .values) 5288 (b .1))
 
+    pub months-few : sheet .factors ≤ 601
+    months-few = fit .0
+
     pub part-factors : sheet .factors ≤ length factors
     part-factors = s .months (fit .0)
 

@@ -1,10 +1,10 @@
 -- A sheet that was read into lists that hold its table, or all of a table that keeps the rules.
-use Prim.Native.Nat.{_≤_, ℕ}
+use Prim.Native.Nat.{_*_, _+_, _-_, _<_, _≤_, ℕ}
 use lib.IntN.{ℤ}
 use lib.ListN.{length}
 use mathlib.Core.List.{List}
 use mathlib.Core.Path.{_≡_}
-use Rattle.language.specs.Limits.{sheetBytes}
+use Rattle.language.specs.Limits.{maxNodes, sheetBytes}
 use Rattle.lines.specs.Sheets.{SheetRead}
 use Rattle.language.specs.Sheet.{sheetCall}
 use Rattle.lines.specs.declared.Sheet.{Sheet}
@@ -19,6 +19,14 @@ pub record SheetHeld (input : List ℕ) (days factors bounds values : List ℤ) 
   pub months : sheet .factors ≤ 601 → sheet .factors ≤ length factors
   pub labels : length bounds ≡ 8
   pub places : sheet .values ≤ 5288 → sheet .values ≤ length values
+
+-- a lent table has a row for each node that the sheet's plan can have: a node takes a letter and a byte more
+abbrev pub PlanRoom : Sheet → List ℤ → Type 0
+PlanRoom sheet nodes = (n : ℕ) → n < maxNodes → 2 * n < sheet .to - sheet .from → 5 * n + 5 ≤ length nodes
+
+-- a lent list holds a number for each month of a table that keeps the rules
+abbrev pub MonthRoom : Sheet → List ℤ → Type 0
+MonthRoom sheet rest = sheet .factors ≤ 601 → sheet .factors ≤ length rest
 
 -- what is answered with lists of so many months and places: the call's answer, or nothing yet, unless they hold every table that keeps the rules
 abbrev pub TriedIs : List ℕ → ℕ → ℕ → List ℕ → List ℕ → Tried → Type 0

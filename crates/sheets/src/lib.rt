@@ -2,17 +2,24 @@
 ghost use mathlib.Core.Path.{_≡_};
 ghost use mathlib.Core.Bool.{_&&_, _||_};
 ghost use mathlib.Core.List.{List};
-ghost use Prim.Native.Nat.{min, suc, ℕ, _≤_};
+ghost use Prim.Native.Nat.{min, suc, ℕ, _-_, _≤_};
 ghost use lib.Dec.{leb};
 ghost use lib.IntN.{natAbs, pos};
 ghost use lib.ListN.{length};
-ghost use Rattle.language.specs.Calls.{pairOk};
+ghost use Rattle.amounts.specs.Flat.{flat};
+ghost use Rattle.columns.specs.Column.{Added, Weighed};
+ghost use Rattle.language.specs.Calls.{pairOk, signOf};
+ghost use Rattle.language.specs.Payments.Pays.{pays};
 ghost use Rattle.language.specs.Sheet.{sheetCall};
 ghost use Rattle.language.specs.Text.Trees.{Delay, Plan};
+ghost use Rattle.nodes.specs.Found.{planAt};
+ghost use Rattle.nodes.specs.Stands.{PlanStands};
+ghost use Rattle.nodes.specs.Table.{natOf};
+ghost use Rattle.pays.specs.Parties.{PairIn};
 ghost use Rattle.rules.specs.Answers.{givenOf};
 ghost use Rattle.rules.specs.Standing.{Standing, Stands};
 ghost use Rattle.sheets.specs.Answers.{answerInto, refusalInto};
-ghost use Rattle.sheets.specs.Held.{SheetHeld, TriedIs};
+ghost use Rattle.sheets.specs.Held.{MonthRoom, PlanRoom, SheetHeld, TriedIs};
 ghost use Rattle.tables.specs.Lookup.{KeptSpan};
 ghost use Rattle.text.specs.Refusals.{numberOf};
 ghost use Rattle.writer.specs.Answers.{writtenAnswer};
@@ -45,9 +52,18 @@ fn months_of(span: Span) -> usize
     span.f as usize + 1
 }
 
+// The walk of the plan from its root: a table and its values go with it as one pointer each.
+fn plan_column(nodes: &[i64], values: &[i64], pair: Pair, column: &mut [i64])
+    requires { ⌜ PairIn (pair .p) (pair .q) × PlanStands 32 (now nodes) 0 × Weighed (now values) (planAt natOf 32 (now nodes) 0) 0 (pos 1) (now column) ⌝ }
+    ensures { λ r. ⌜ Added (now (column .entry)) (now (column .exit)) (pos 1)
+        (pays (flat (now (values .entry))) (signOf (pair .p) (pair .q)) (planAt natOf 32 (now (nodes .entry)) 0) 0) ⌝ }
+{
+    columns::plan_column(&nodes, &values, Month(0), pair, Pence(1), column, 0, 32);
+}
+
 // The answer for a plan that was read: accepted first, then paid month by month, and what is left from each month on.
 pub fn answer(
-    nodes: &mut [i64; 2560],
+    nodes: &mut [i64],
     count: usize,
     days: &[i64],
     span: Span,
@@ -56,9 +72,10 @@ pub fn answer(
     values: &[i64],
     pair: Pair,
     asked: bool,
+    rest: &mut [i64],
     out: &mut [u8],
 ) -> Written
-    requires { ⌜ Stands (now nodes) count × (asked ≡ pairOk (pair .p) (pair .q)) ⌝ }
+    requires { ⌜ Stands (now nodes) count × (asked ≡ pairOk (pair .p) (pair .q)) × (length (now factors) ≤ length (now rest)) ⌝ }
     ensures { λ r. ⌜ ((x : Plan Delay) → Standing (now (nodes .entry)) count x
         → (now (out .exit) ≡ answerInto
         (givenOf (now (days .entry)) (span .h) (span .f) (now (factors .entry)) (now (bounds .entry)) (now (values .entry)))
@@ -82,14 +99,13 @@ pub fn answer(
         Checking::Accepted(length, magnitude) => {
             places::place_rows(nodes, count, span);
             let mut column = [0i64; 601];
-            columns::plan_column(nodes, values, Month(0), pair, Pence(1), &mut column, 0, 32);
-            let mut rest = [0i64; 601];
+            plan_column(nodes, values, pair, &mut column);
             let months = months_of(span);
-            remaining::add_back(factors, &column, &mut rest, months);
+            remaining::add_back(factors, &column, rest, months);
             let a = integers::magnitude(length.0) as i64;
             let b = integers::magnitude(magnitude.0) as i64;
             let head = [a, b];
-            printing::write_answer(&head, &column, &rest, months, out)
+            printing::write_answer(&head, &column, rest, months, out)
         }
         Checking::Refused(refusal) => refuse(refusal, out),
     }
@@ -109,24 +125,25 @@ fn settings_of(sheet: Sheet) -> usize
     if sheet.days <= 9 { sheet.days } else { 9 }
 }
 
-// The answer of a sheet that was read.
-fn answer_read(
+// The answer of a sheet that was read, with a table lent for its plan and a list for what is left in each month.
+fn answer_with(
     input: &[u8],
     sheet: Sheet,
+    nodes: &mut [i64],
+    rest: &mut [i64],
     days: &[i64],
     factors: &[i64],
     bounds: &[i64],
     values: &[i64],
     out: &mut [u8],
 ) -> Written
-    requires { ⌜ SheetHeld (now input) (now days) (now factors) (now bounds) (now values) sheet ⌝ }
+    requires { ⌜ SheetHeld (now input) (now days) (now factors) (now bounds) (now values) sheet × PlanRoom sheet (now nodes) × MonthRoom sheet (now rest) ⌝ }
     ensures { λ r. ⌜ (now (out .exit) ≡ sheetCall (now (input .entry)) (now (out .entry)) .buffer)
         × (writtenAnswer r ≡ sheetCall (now (input .entry)) (now (out .entry)) .answer) ⌝ }
 {
-    let mut nodes = [0i64; 2560];
     let from = sheet.from;
     let to = sheet.to;
-    let reading = text::read_plan(&input[from..to], &mut nodes);
+    let reading = text::read_plan(&input[from..to], nodes);
     match reading {
         Reading::Nodes(count) => {
             if fits(sheet) {
@@ -141,7 +158,7 @@ fn answer_read(
                 let pair = Pair { p, q };
                 let asked = payments::parties_ok(pair);
                 answer(
-                    &mut nodes,
+                    nodes,
                     count,
                     &days[0..n],
                     Span { h, f },
@@ -150,6 +167,7 @@ fn answer_read(
                     &values[0..places],
                     pair,
                     asked,
+                    rest,
                     out,
                 )
             } else {
@@ -158,6 +176,119 @@ fn answer_read(
         }
         Reading::Refused(refusal) => refuse(refusal, out),
     }
+}
+
+// A plan of few bytes has few nodes, and a short table is cleared sooner: 96 rows, 192 or all 512.
+fn brief_answer(
+    input: &[u8],
+    sheet: Sheet,
+    days: &[i64],
+    factors: &[i64],
+    bounds: &[i64],
+    values: &[i64],
+    out: &mut [u8],
+) -> Written
+    requires { ⌜ SheetHeld (now input) (now days) (now factors) (now bounds) (now values) sheet × (sheet .to - sheet .from ≤ 192) × (sheet .factors ≤ 64) ⌝ }
+    ensures { λ r. ⌜ (now (out .exit) ≡ sheetCall (now (input .entry)) (now (out .entry)) .buffer)
+        × (writtenAnswer r ≡ sheetCall (now (input .entry)) (now (out .entry)) .answer) ⌝ }
+{
+    let mut nodes = [0i64; 480];
+    let mut rest = [0i64; 64];
+    answer_with(
+        input,
+        sheet,
+        &mut nodes,
+        &mut rest,
+        days,
+        factors,
+        bounds,
+        values,
+        out,
+    )
+}
+
+fn short_answer(
+    input: &[u8],
+    sheet: Sheet,
+    days: &[i64],
+    factors: &[i64],
+    bounds: &[i64],
+    values: &[i64],
+    out: &mut [u8],
+) -> Written
+    requires { ⌜ SheetHeld (now input) (now days) (now factors) (now bounds) (now values) sheet × (sheet .to - sheet .from ≤ 384) ⌝ }
+    ensures { λ r. ⌜ (now (out .exit) ≡ sheetCall (now (input .entry)) (now (out .entry)) .buffer)
+        × (writtenAnswer r ≡ sheetCall (now (input .entry)) (now (out .entry)) .answer) ⌝ }
+{
+    let mut nodes = [0i64; 960];
+    let mut rest = [0i64; 601];
+    answer_with(
+        input,
+        sheet,
+        &mut nodes,
+        &mut rest,
+        days,
+        factors,
+        bounds,
+        values,
+        out,
+    )
+}
+
+fn long_answer(
+    input: &[u8],
+    sheet: Sheet,
+    days: &[i64],
+    factors: &[i64],
+    bounds: &[i64],
+    values: &[i64],
+    out: &mut [u8],
+) -> Written
+    requires { ⌜ SheetHeld (now input) (now days) (now factors) (now bounds) (now values) sheet ⌝ }
+    ensures { λ r. ⌜ (now (out .exit) ≡ sheetCall (now (input .entry)) (now (out .entry)) .buffer)
+        × (writtenAnswer r ≡ sheetCall (now (input .entry)) (now (out .entry)) .answer) ⌝ }
+{
+    let mut nodes = [0i64; 2560];
+    let mut rest = [0i64; 601];
+    answer_with(
+        input,
+        sheet,
+        &mut nodes,
+        &mut rest,
+        days,
+        factors,
+        bounds,
+        values,
+        out,
+    )
+}
+
+// The answer of a sheet that was read.
+fn answer_read(
+    input: &[u8],
+    sheet: Sheet,
+    days: &[i64],
+    factors: &[i64],
+    bounds: &[i64],
+    values: &[i64],
+    out: &mut [u8],
+) -> Written
+    requires { ⌜ SheetHeld (now input) (now days) (now factors) (now bounds) (now values) sheet ⌝ }
+    ensures { λ r. ⌜ (now (out .exit) ≡ sheetCall (now (input .entry)) (now (out .entry)) .buffer)
+        × (writtenAnswer r ≡ sheetCall (now (input .entry)) (now (out .entry)) .answer) ⌝ }
+{
+    let from = sheet.from;
+    let to = sheet.to;
+    let months = sheet.factors;
+    if to - from <= 192 {
+        if months <= 64 {
+            return brief_answer(input, sheet, days, factors, bounds, values, out);
+        }
+    }
+    if to - from <= 384 {
+        return short_answer(input, sheet, days, factors, bounds, values, out);
+    }
+    long_answer(input, sheet, days, factors, bounds, values, out)
 }
 
 // An answer, or that the lent lists do not hold the sheet's table though longer ones might.

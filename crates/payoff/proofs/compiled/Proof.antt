@@ -7,13 +7,13 @@ use Rattle.payoff.proofs.compiled.Tie as tie
 
 compile-plan-requires : tie.Need-compile-plan-requires
 compile-plan-requires c κs =
-    let s = c .before .before in
+    let s = c .before .before .before in
     let y = s .pre .0 in
     (ready (y .text) _ _ (y .read), omega (arith, s .pre .1))
 
 write-text-requires : tie.Need-write-text-requires
 write-text-requires c κs =
-    let s = c .before .before .before .before .before .before in
+    let s = c .before .before .before .before .before .before .before in
     let y = s .pre .0 in
     let k = c .before .before .before .compile-plan in
     let n = k .ensures .0 in
@@ -31,7 +31,7 @@ same-length-2 c = search needs
 returns : tie.Need-returns
 returns c y =
     let o = c .before .before .before .write-text in
-    let e = compile-is (y .text) _ _ (y .read) (c .before .before .before .before .before .before .before .compile-plan .ensures .1) (c .before .before .before .before .before .before .before .before .before .before .args .out .now) in
+    let e = compile-is (y .text) _ _ (y .read) (c .before .before .before .before .before .before .before .compile-plan .ensures .1) (c .before .before .before .before .before .before .before .before .before .before .before .args .out .now) in
     (o .ensures .0 ∙ ap (λ u. u .buffer) e, c .told .ensures ∙ o .ensures .1 ∙ ap (λ u. u .answer) e)
 
 pub compiled-spec : {M : Type 1} → statement M

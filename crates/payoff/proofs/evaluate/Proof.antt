@@ -1,59 +1,39 @@
-use mathlib.Core.Path.{_∙_, subst, sym}
-use mir.Facts.{toZ-ofZ}
-use Rattle.language.specs.Text.Letters.{payoffForm}
-use Rattle.language.specs.Text.Reader.{readText}
-use Rattle.payoff.proofs.Evaluations.{evaluate-is, evaluate-refuses, read-settled, read-stands}
-use Rattle.payoff.specs.Evaluating.{givenOf}
-use Rattle.text.specs.ReadInto.{ReadInto}
 use borrow.Author.Needs.{needs}
+use mir.Facts.{toZ-ofZ}
 use Rattle.payoff.proofs.evaluate.Statement.{statement}
 use Rattle.payoff.proofs.evaluate.Tie as tie
 
-slice-aggregate-read-payoff : tie.Need-slice-aggregate-read-payoff
-slice-aggregate-read-payoff c = search needs
-
-read-payoff-requires : tie.Need-read-payoff-requires
-read-payoff-requires c κs = search needs
-
-enum-known-reading : tie.Need-enum-known-reading
-enum-known-reading c = search needs
-
-has-open-requires : tie.Need-has-open-requires
-has-open-requires c κs = search needs
-
-evaluate-nodes-requires : tie.Need-evaluate-nodes-requires
-evaluate-nodes-requires c κs =
-    let a = c .before .before .before .before .before .before .before .before .before .args in
-    let r = c .before .before .before .before .before .before .read-payoff in
-    let u = subst (ReadInto payoffForm (readText payoffForm (a .text .now)) (r .last .1 .0)) (c .before .before .before .reading .given .1) (r .ensures .0) in
-    (read-stands (a .text .now) _ _ u, λ e. read-settled (a .text .now) _ _ u (sym (c .has-open .ensures) ∙ e))
-
-enum-known-reading-2 : tie.Need-enum-known-reading-2
-enum-known-reading-2 c = search needs
+brief-evaluate-requires : tie.Need-brief-evaluate-requires
+brief-evaluate-requires c κs = search needs
 
 returns : tie.Need-returns
 returns c =
-    let s = c .before .before .before .before .before .before .before .before .before .before in
-    let a = s .args in
-    let r = c .before .before .before .before .before .before .before .read-payoff in
-    evaluate-is (a .text .now) (r .last .1 .0) _ (subst (ReadInto payoffForm (readText payoffForm (a .text .now)) (r .last .1 .0)) (c .before .before .before .before .reading .given .1) (r .ensures .0)) (givenOf (a .days .now) (a .h) (a .f) (a .factors .now) (a .bounds .now) (a .values .now)) (a .p) (a .q) (a .month)
-    (rw (toZ-ofZ (s .fits .h), toZ-ofZ (s .fits .f), toZ-ofZ (s .fits .month), toZ-ofZ (s .fits .p), toZ-ofZ (s .fits .q)) at (c .evaluate-nodes .ensures))
+    let f = c .before .before .before .fits in
+    rw (toZ-ofZ (f .h), toZ-ofZ (f .f), toZ-ofZ (f .month), toZ-ofZ (f .p), toZ-ofZ (f .q)) at (c .brief-evaluate .ensures)
+
+short-evaluate-requires : tie.Need-short-evaluate-requires
+short-evaluate-requires c κs = search needs
 
 returns-2 : tie.Need-returns-2
 returns-2 c =
-    let s = c .before .before .before .before .before .before .before in
-    let a = s .args in
-    evaluate-refuses (a .text .now) (givenOf (a .days .now) (a .h) (a .f) (a .factors .now) (a .bounds .now) (a .values .now)) (a .p) (a .q) (a .month) (c .before .reading2 .given .0 .0) (subst (ReadInto payoffForm (readText payoffForm (a .text .now)) (c .before .before .before .before .read-payoff .last .1 .0)) (c .before .reading2 .given .1) (c .before .before .before .before .read-payoff .ensures .0))
+    let f = c .before .before .before .before .fits in
+    rw (toZ-ofZ (f .h), toZ-ofZ (f .f), toZ-ofZ (f .month), toZ-ofZ (f .p), toZ-ofZ (f .q)) at (c .short-evaluate .ensures)
+
+long-evaluate-requires : tie.Need-long-evaluate-requires
+long-evaluate-requires c κs = search needs
+
+returns-3 : tie.Need-returns-3
+returns-3 c =
+    let f = c .before .before .before .before .fits in
+    rw (toZ-ofZ (f .h), toZ-ofZ (f .f), toZ-ofZ (f .month), toZ-ofZ (f .p), toZ-ofZ (f .q)) at (c .long-evaluate .ensures)
 
 pub evaluate-spec : {M : Type 1} → statement M
 evaluate-spec =
     tie.close
     (tie.spec
-    slice-aggregate-read-payoff
-    read-payoff-requires
-    enum-known-reading
-    has-open-requires
-    evaluate-nodes-requires
-    enum-known-reading-2
+    brief-evaluate-requires
     returns
-    returns-2)
+    short-evaluate-requires
+    returns-2
+    long-evaluate-requires
+    returns-3)

@@ -2,15 +2,12 @@ use mathlib.Core.Path.{subst}
 use native.Mathlib.Omega.{arith}
 use Rattle.language.specs.Text.Letters.{planForm}
 use Rattle.language.specs.Text.Reader.{readText}
-use Rattle.payoff.proofs.CompileTexts.{few, kept, refusal-is}
+use Rattle.payoff.proofs.CompileTexts.{in-table, kept, refusal-is}
 use Rattle.payoff.specs.Compiling.{PlanRows}
 use Rattle.text.specs.ReadInto.{ReadInto}
 use borrow.Author.Needs.{needs}
-use Rattle.payoff.proofs.compile.Statement.{statement}
-use Rattle.payoff.proofs.compile.Tie as tie
-
-slice-aggregate-read-plan : tie.Need-slice-aggregate-read-plan
-slice-aggregate-read-plan c = search needs
+use Rattle.payoff.proofs.compile_in.Statement.{statement}
+use Rattle.payoff.proofs.compile_in.Tie as tie
 
 read-plan-requires : tie.Need-read-plan-requires
 read-plan-requires c κs = search needs
@@ -24,17 +21,10 @@ plan c =
     let text = c .before .before .before .before .before .before .before .before .args .text .now in
     record { text = text; read = subst (ReadInto planForm (readText planForm text) (c .before .before .before .before .read-plan .last .1 .0)) (c .before .reading .given .1) (c .before .before .before .before .read-plan .ensures .0) }
 
-slice-aggregate-compiled : tie.Need-slice-aggregate-compiled
-slice-aggregate-compiled c = search needs
-
 compiled-requires : tie.Need-compiled-requires
-compiled-requires c κs = (plan (c .before .before .before .before), omega (arith, c .before .before .before .if1 .taken))
-
-slice-aggregate-compiled-2 : tie.Need-slice-aggregate-compiled-2
-slice-aggregate-compiled-2 c = search needs
-
-compiled-requires-2 : tie.Need-compiled-requires-2
-compiled-requires-2 c κs = let y = plan (c .before .before .before .before) in (y, omega (arith, few (y .text) _ _ (y .read)))
+compiled-requires c κs =
+    let y = plan (c .before .before .before) in
+    (y, omega (arith, in-table (y .text) _ _ (y .read), c .before .before .before .before .before .before .before .read-plan .ensures .1, c .before .before .before .before .before .before .before .before .before .before .before .pre .1))
 
 enum-known-reading-2 : tie.Need-enum-known-reading-2
 enum-known-reading-2 c = search needs
@@ -42,36 +32,36 @@ enum-known-reading-2 c = search needs
 same-length : tie.Need-same-length
 same-length c = search needs
 
-returns : tie.Need-returns
-returns c = c .before .before .before .compiled .ensures (plan (c .before .before .before .before .before .before .before .before))
-
 same-length-2 : tie.Need-same-length-2
 same-length-2 c = search needs
 
-returns-2 : tie.Need-returns-2
-returns-2 c = c .before .before .before .compiled2 .ensures (plan (c .before .before .before .before .before .before .before .before))
+same-length-3 : tie.Need-same-length-3
+same-length-3 c = search needs
 
-returns-3 : tie.Need-returns-3
-returns-3 c =
+returns : tie.Need-returns
+returns c = c .before .before .before .compiled .ensures (plan (c .before .before .before .before .before .before .before))
+
+same-length-4 : tie.Need-same-length-4
+same-length-4 c = search needs
+
+returns-2 : tie.Need-returns-2
+returns-2 c =
     let a = c .before .before .before .before .before .before .before .before .args in
     let p = c .before .before .before .before .read-plan in
     let r = subst (ReadInto planForm (readText planForm (a .text .now)) (p .last .1 .0)) (c .before .reading2 .given .1) (p .ensures .0) in
     (kept (a .text .now) (a .out .now) (c .before .reading2 .given .0 .0) r, refusal-is (a .text .now) (a .out .now) _ r)
 
-pub compile-spec : {M : Type 1} → statement M
-compile-spec =
+pub compile-in-spec : {M : Type 1} → statement M
+compile-in-spec =
     tie.close
     (tie.spec
-    slice-aggregate-read-plan
     read-plan-requires
     enum-known-reading
-    slice-aggregate-compiled
     compiled-requires
-    slice-aggregate-compiled-2
-    compiled-requires-2
     enum-known-reading-2
     same-length
-    returns
     same-length-2
-    returns-2
-    returns-3)
+    same-length-3
+    returns
+    same-length-4
+    returns-2)

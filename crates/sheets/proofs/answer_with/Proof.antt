@@ -1,6 +1,7 @@
 use Prim.Native.Nat.{_-_, _≤_}
 use borrow.Author.Needs.{needs}
-use lib.ListN.{drop, length, take}
+use lib.ListN.{drop, length-drop, take}
+use lib.Seq.{length-take-le}
 use mathlib.Core.Path.{_∙_, _≡_, ap, refl, subst, sym}
 use mir.Facts.{toZ-ofZ}
 use mir.Syntax.{w64}
@@ -8,11 +9,11 @@ use mir.Val.{SFits}
 use native.Mathlib.Omega.{arith}
 use Rattle.language.specs.Text.Letters.{planForm}
 use Rattle.language.specs.Text.Reader.{readText}
-use Rattle.sheets.proofs.SheetReads.{answer-is, not-held, part-bounds, part-days, part-factors, part-values, plan-not-read, plan-part, plan-read, plan-refused, table-refused}
+use Rattle.sheets.proofs.SheetReads.{answer-is, months-few, not-held, part-bounds, part-days, part-factors, part-values, plan-not-read, plan-part, plan-read, plan-refused, table-refused}
 use Rattle.text.specs.ReadInto.{ReadInto}
 use Rattle.text.specs.Refusals.{numberOf}
-use Rattle.sheets.proofs.answer_read.Statement.{statement}
-use Rattle.sheets.proofs.answer_read.Tie as tie
+use Rattle.sheets.proofs.answer_with.Statement.{statement}
+use Rattle.sheets.proofs.answer_with.Tie as tie
 
 figures : (s : tie.Start) → SFits w64 (s .args .sheet .h) × SFits w64 (s .args .sheet .f) × SFits w64 (s .args .sheet .p) × SFits w64 (s .args .sheet .q)
 figures s = (search needs, search needs, search needs, search needs)
@@ -21,14 +22,14 @@ sub-read-plan : tie.Need-sub-read-plan
 sub-read-plan c =
     let s = c .before .before in
     let a = s .args in
-    let w = s .pre in
+    let w = s .pre .0 in
     omega (arith, plan-part w .0)
 
 part-read-plan-start : tie.Need-part-read-plan-start
 part-read-plan-start c =
     let s = c .before .before in
     let a = s .args in
-    let w = s .pre in
+    let w = s .pre .0 in
     let h = plan-part w in
     search needs
 
@@ -36,15 +37,23 @@ part-read-plan-end : tie.Need-part-read-plan-end
 part-read-plan-end c =
     let s = c .before .before in
     let a = s .args in
-    let w = s .pre in
+    let w = s .pre .0 in
     let h = plan-part w .1 in
     search needs
+
+read-plan-requires : tie.Need-read-plan-requires
+read-plan-requires c κs =
+    let s = c .before .before .before .before in
+    let a = s .args in
+    let h = plan-part (s .pre .0) in
+    let e = length-take-le (a .sheet .to - a .sheet .from) (drop (a .sheet .from) (a .input .now)) (omega (arith, h .0, h .1, length-drop (a .sheet .from) (a .input .now))) in
+    λ n few b. s .pre .1 n few (omega (arith, b, e))
 
 part-answer-end : tie.Need-part-answer-end
 part-answer-end c =
     let s = c .before .before .before .before .before .before .before .before .before .before .before .before .before .before .before .before .before .before in
     let a = s .args in
-    let w = s .pre in
+    let w = s .pre .0 in
     let t = sym (c .before .before .before .before .before .before .before .before .fits2 .ensures) ∙ c .before .before .before .before .before .before .before .if1 .taken in
     let h = part-days w t (c .before .before .before .before .before .before .settings-of .ensures) in
     search needs
@@ -53,7 +62,7 @@ part-answer-end-2 : tie.Need-part-answer-end-2
 part-answer-end-2 c =
     let s = c .before .before .before .before .before .before .before .before .before .before .before .before .before .before .before .before .before .before .before in
     let a = s .args in
-    let w = s .pre in
+    let w = s .pre .0 in
     let t = sym (c .before .before .before .before .before .before .before .before .before .fits2 .ensures) ∙ c .before .before .before .before .before .before .before .before .if1 .taken in
     let h = part-factors w t in
     search needs
@@ -62,7 +71,7 @@ part-answer-end-3 : tie.Need-part-answer-end-3
 part-answer-end-3 c =
     let s = c .before .before .before .before .before .before .before .before .before .before .before .before .before .before .before .before .before .before .before .before in
     let a = s .args in
-    let w = s .pre in
+    let w = s .pre .0 in
     let t = sym (c .before .before .before .before .before .before .before .before .before .before .fits2 .ensures) ∙ c .before .before .before .before .before .before .before .before .before .if1 .taken in
     let h = part-bounds w t in
     search needs
@@ -71,36 +80,41 @@ part-answer-end-4 : tie.Need-part-answer-end-4
 part-answer-end-4 c =
     let s = c .before .before .before .before .before .before .before .before .before .before .before .before .before .before .before .before .before .before .before .before .before in
     let a = s .args in
-    let w = s .pre in
+    let w = s .pre .0 in
     let t = sym (c .before .before .before .before .before .before .before .before .before .before .before .fits2 .ensures) ∙ c .before .before .before .before .before .before .before .before .before .before .if1 .taken in
     let h = part-values w t in
     search needs
 
 answer-requires : tie.Need-answer-requires
 answer-requires c κs =
-    let s = c .before .before .before .before .before .before .before .before .before .before .before .before .before .before .before .before .before .before .before .before .before .before .before in
+    let s = c .before .before .before .before .before .before .before .before .before .before .before .before .before .before .before .before .before .before .before .before .before .before .before .before in
     let a = s .args in
-    let w = s .pre in
-    let p = plan-read w _ _ (subst (ReadInto planForm (readText planForm (take (a .sheet .to - a .sheet .from) (drop (a .sheet .from) (a .input .now)))) (c .before .before .before .before .before .before .before .before .before .before .before .before .before .before .before .before .before .before .read-plan .last .1 .0)) (c .before .before .before .before .before .before .before .before .before .before .before .before .before .before .before .reading .given .1) (c .before .before .before .before .before .before .before .before .before .before .before .before .before .before .before .before .before .before .read-plan .ensures .0)) in
-    (record { plan = p .plan; standing = p .stands }, c .before .before .before .before .before .before .parties-ok .ensures)
+    let w = s .pre .0 in
+    let p = plan-read w _ _ (subst (ReadInto planForm (readText planForm (take (a .sheet .to - a .sheet .from) (drop (a .sheet .from) (a .input .now)))) (c .before .before .before .before .before .before .before .before .before .before .before .before .before .before .before .before .before .before .before .read-plan .last .1 .0)) (c .before .before .before .before .before .before .before .before .before .before .before .before .before .before .before .before .reading .given .1) (c .before .before .before .before .before .before .before .before .before .before .before .before .before .before .before .before .before .before .before .read-plan .ensures .0)) in
+    let t = sym (c .before .before .before .before .before .before .before .before .before .before .before .before .before .before .fits2 .ensures) ∙ c .before .before .before .before .before .before .before .before .before .before .before .before .before .if1 .taken in
+    let e = length-take-le (a .sheet .factors - 0) (a .factors .now) (omega (arith, part-factors w t)) in
+    (record { plan = p .plan; standing = p .stands }, c .before .before .before .before .before .before .before .parties-ok .ensures, omega (arith, e, s .pre .2 (months-few w t)))
+
+same-length : tie.Need-same-length
+same-length c = c .before .before .before .before .answer .kept .0 ∙ c .before .before .before .before .before .before .before .before .before .before .before .before .before .before .before .before .before .before .before .before .before .before .before .before .read-plan .kept .1 .0
 
 returns : tie.Need-returns
 returns c =
-    let s = c .before .before .before .before .before .before .before .before .before .before .before .before .before .before .before .before .before .before .before .before .before .before .before .before .before .before in
+    let s = c .before .before .before .before .before .before .before .before .before .before .before .before .before .before .before .before .before .before .before .before .before .before .before .before .before .before .before .before .before in
     let a = s .args in
-    let w = s .pre in
-    let t = sym (c .before .before .before .before .before .before .before .before .before .before .before .before .before .before .before .before .fits2 .ensures) ∙ c .before .before .before .before .before .before .before .before .before .before .before .before .before .before .before .if1 .taken in
-    let p = plan-read w _ _ (subst (ReadInto planForm (readText planForm (take (a .sheet .to - a .sheet .from) (drop (a .sheet .from) (a .input .now)))) (c .before .before .before .before .before .before .before .before .before .before .before .before .before .before .before .before .before .before .before .before .before .read-plan .last .1 .0)) (c .before .before .before .before .before .before .before .before .before .before .before .before .before .before .before .before .before .before .reading .given .1) (c .before .before .before .before .before .before .before .before .before .before .before .before .before .before .before .before .before .before .before .before .before .read-plan .ensures .0)) in
+    let w = s .pre .0 in
+    let t = sym (c .before .before .before .before .before .before .before .before .before .before .before .before .before .before .before .before .before .before .before .fits2 .ensures) ∙ c .before .before .before .before .before .before .before .before .before .before .before .before .before .before .before .before .before .before .if1 .taken in
+    let p = plan-read w _ _ (subst (ReadInto planForm (readText planForm (take (a .sheet .to - a .sheet .from) (drop (a .sheet .from) (a .input .now)))) (c .before .before .before .before .before .before .before .before .before .before .before .before .before .before .before .before .before .before .before .before .before .before .before .before .read-plan .last .1 .0)) (c .before .before .before .before .before .before .before .before .before .before .before .before .before .before .before .before .before .before .before .before .before .reading .given .1) (c .before .before .before .before .before .before .before .before .before .before .before .before .before .before .before .before .before .before .before .before .before .before .before .before .read-plan .ensures .0)) in
     let g = figures s in
-    let k = rw (toZ-ofZ (g .0), toZ-ofZ (g .1), toZ-ofZ (g .2), toZ-ofZ (g .3)) at (c .before .before .answer .ensures (p .plan) (p .stands)) in
-    let e = answer-is w t (c .before .before .before .before .before .before .before .before .before .before .before .before .before .before .settings-of .ensures) (p .plan) (p .is) (a .out .now) in
+    let k = rw (toZ-ofZ (g .0), toZ-ofZ (g .1), toZ-ofZ (g .2), toZ-ofZ (g .3)) at (c .before .before .before .before .answer .ensures (p .plan) (p .stands)) in
+    let e = answer-is w t (c .before .before .before .before .before .before .before .before .before .before .before .before .before .before .before .before .before .settings-of .ensures) (p .plan) (p .is) (a .out .now) in
     (k .0 ∙ ap (λ o. o .buffer) e, k .1 ∙ ap (λ o. o .answer) e)
 
 returns-2 : tie.Need-returns-2
 returns-2 c =
     let s = c .before .before .before .before .before .before .before .before .before .before .before .before .before .before .before in
     let a = s .args in
-    let w = s .pre in
+    let w = s .pre .0 in
     let p = plan-read w _ _ (subst (ReadInto planForm (readText planForm (take (a .sheet .to - a .sheet .from) (drop (a .sheet .from) (a .input .now)))) (c .before .before .before .before .before .before .before .before .before .before .read-plan .last .1 .0)) (c .before .before .before .before .before .before .before .reading .given .1) (c .before .before .before .before .before .before .before .before .before .before .read-plan .ensures .0)) in
     let e = table-refused w (not-held w (sym (c .before .before .before .before .before .fits2 .ensures) ∙ c .before .before .before .before .if1 .left)) (p .plan) (p .is) (a .out .now) in
     (c .before .before .refuse .ensures .0 ∙ ap (λ o. o .buffer) e, c .before .before .refuse .ensures .1 ∙ ap (λ o. o .answer) e)
@@ -109,19 +123,18 @@ returns-3 : tie.Need-returns-3
 returns-3 c =
     let s = c .before .before .before .before .before .before .before .before .before .before .before .before .before in
     let a = s .args in
-    let w = s .pre in
+    let w = s .pre .0 in
     let e = plan-refused w (numberOf (c .before .before .before .before .before .reading2 .given .0 .0)) (plan-not-read w (c .before .before .before .before .before .reading2 .given .0 .0) (subst (ReadInto planForm (readText planForm (take (a .sheet .to - a .sheet .from) (drop (a .sheet .from) (a .input .now)))) (c .before .before .before .before .before .before .before .before .read-plan .last .1 .0)) (c .before .before .before .before .before .reading2 .given .1) (c .before .before .before .before .before .before .before .before .read-plan .ensures .0))) (a .out .now) in
     (c .before .before .refuse2 .ensures .0 ∙ ap (λ o. o .buffer) e, c .before .before .refuse2 .ensures .1 ∙ ap (λ o. o .answer) e)
 
-pub answer-read-spec : {M : Type 1} → statement M
-answer-read-spec =
+pub answer-with-spec : {M : Type 1} → statement M
+answer-with-spec =
     tie.close
     (tie.spec
     sub-read-plan
     part-read-plan-start
     part-read-plan-end
-    (λ c. search needs)
-    (λ c κs. search needs)
+    read-plan-requires
     (λ c. search needs)
     (λ c κs. search needs)
     (λ c κs. search needs)
@@ -142,9 +155,13 @@ answer-read-spec =
     (λ c κs. search needs)
     (λ c. search needs)
     (λ c κs. search needs)
+    same-length
+    (λ c. search needs)
     (λ c. search needs)
     returns
     (λ c. search needs)
+    (λ c. search needs)
     returns-2
+    (λ c. search needs)
     (λ c. search needs)
     returns-3)
