@@ -549,7 +549,7 @@ pub fn step(
         (givenOf (now (days .entry)) h f (now (factors .entry)) (now (bounds .entry)) (now (values .entry))) today p q (now (out .entry)) .answer) ⌝ }
 {
     let span = Span { h: h, f: f };
-    let pair = Pair { p: p, q: q };
+    let parties = Pair { p: p, q: q };
     if text.len() <= 192 {
         return brief_step(
             text,
@@ -559,7 +559,7 @@ pub fn step(
             bounds,
             values,
             Month(today),
-            pair,
+            parties,
             out,
         );
     }
@@ -572,7 +572,7 @@ pub fn step(
             bounds,
             values,
             Month(today),
-            pair,
+            parties,
             out,
         );
     }
@@ -584,7 +584,7 @@ pub fn step(
         bounds,
         values,
         Month(today),
-        pair,
+        parties,
         out,
     )
 }
