@@ -111,5 +111,38 @@ pub fn all() -> Vec<Case> {
                 Ok(())
             },
         },
+        Case {
+            name: "as many nodes as so many bytes can have, in tables of every length",
+            needs: &["check", "payment", "step", "compile", "evaluate", "sheet"],
+            run: || {
+                let numbers = bare(0, 0);
+                for leaves in 1..=256 {
+                    let plan = plans(leaves, "T,1,2");
+                    let payoff = plans(leaves, "F,0,1,2");
+                    let input = format!("plan,{plan}\ndays\nspan,0,0\nfactors,1000000\npair,1,2\n");
+                    let printed = "accepted,0,1\n0,1,1000000\n";
+                    let told = format!("{leaves} leaves");
+                    same_for(&told, check(&plan, &[], &numbers, 0), Ok((0, 1)))?;
+                    same_for(&told, payment(&plan, &[], &numbers, 0, 0), Ok(1))?;
+                    let next = (1, plans(leaves, "Z"));
+                    same_for(&told, step(&plan, &[], &numbers, 0), Ok(next))?;
+                    same_for(&told, compile(&plan), Ok(payoff.clone()))?;
+                    same_for(&told, evaluate(&payoff, &[], &numbers, 0), Ok(1_000_000))?;
+                    same_for(&told, sheet(&input), Ok(printed.into()))?;
+                }
+                Ok(())
+            },
+        },
     ]
+}
+
+/// So many plans at once, all nothing but the last.
+fn plans(leaves: usize, last: &str) -> String {
+    match leaves {
+        1 => last.into(),
+        _ => {
+            let (left, right) = (leaves / 2, leaves - leaves / 2);
+            format!("B,{},{}", plans(left, "Z"), plans(right, last))
+        }
+    }
 }
