@@ -23,10 +23,10 @@ module _ (plain digits : ℤ) where
     abbrev isIndex : Bool
     isIndex = eqZ (slotAt nodes at 0) (pos (byte "O"))
 
-    pub index-compiled : isIndex ≡ true → {i p g : ℤ} → i ≡ slotAt nodes at 2 → p ≡ offsetPlain plain i → g ≡ digits
-        → pos (byte "O") ∷ slotAt nodes at 1 ∷ p ∷ g ∷ pos 0 ∷ [] ≡ compileRow plain digits (rowFrom (at * 5) nodes)
+    pub index-compiled : isIndex ≡ true → {i p : ℤ} → i ≡ slotAt nodes at 2 → p ≡ offsetPlain plain i
+        → pos (byte "O") ∷ slotAt nodes at 1 ∷ p ∷ digits ∷ pos 0 ∷ [] ≡ compileRow plain digits (rowFrom (at * 5) nodes)
     unfolding compiledIndex
-    index-compiled e ei ep eg = row-of refl refl (ep ∙ ap (offsetPlain plain) ei) eg refl ∙ index-copied (compiledIndex plain digits) nodes at e
+    index-compiled e ei ep = row-of refl refl (ep ∙ ap (offsetPlain plain) ei) refl refl ∙ index-copied (compiledIndex plain digits) nodes at e
 
     pub other-compiled : isIndex ≡ false → slotAt nodes at 0 ∷ slotAt nodes at 1 ∷ slotAt nodes at 2 ∷ pos 0 ∷ pos 0 ∷ [] ≡ compileRow plain digits (rowFrom (at * 5) nodes)
     other-compiled e = other-copied (compiledIndex plain digits) nodes at e

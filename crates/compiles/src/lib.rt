@@ -11,8 +11,8 @@ ghost use Rattle.language.specs.Payoff.Compile.{compilePlan};
 ghost use Rattle.language.specs.Text.Letters.{payoffForm};
 ghost use Rattle.language.specs.Text.Plans.{payoffTrees};
 ghost use Rattle.language.specs.Text.Reader.{end};
+use integers::Month;
 use measures::node;
-use months::Months;
 use nodes::PlanLetter;
 
 pub mod months;
@@ -25,61 +25,65 @@ pub fn compile_rows(
     count: usize,
     from: usize,
     to: usize,
-    month: Months,
+    plain: Month,
+    digits: Month,
 ) -> usize
-    requires { ⌜ (natAbs (month .plain) ≤ 19_200) × (from ≤ to) × (to ≤ 512) × (5 * to ≤ length (now (now nodes))) × (5 * (count + (to - from)) ≤ length (now out)) ⌝ }
-    ensures { λ r. ⌜ Copied (compileRow (month .plain) (month .digits)) (now (now (nodes .entry))) from to (now (out .entry)) (now (out .exit)) count r ⌝ }
+    requires { ⌜ (natAbs (plain .0) ≤ 19_200) × (from ≤ to) × (to ≤ 512) × (5 * to ≤ length (now (now nodes))) × (5 * (count + (to - from)) ≤ length (now out)) ⌝ }
+    ensures { λ r. ⌜ Copied (compileRow (plain .0) (digits .0)) (now (now (nodes .entry))) from to (now (out .entry)) (now (out .exit)) count r ⌝ }
 {
     let mut next = count;
     let mut at = from;
     while at < to {
-        next = rows::compile_row(nodes, out, next, at, month);
+        next = rows::compile_row(nodes, out, next, at, plain, digits);
         at += 1;
     }
     next
 }
 
-// The payoff of the plan that stands in the rows from node `at` up to node `to`; `month` is the sum of all delays above.
+// The payoff of the plan that stands in the rows from node `at` up to node `to`; `plain` and `digits` are the sum of all delays above.
 pub fn compile_plan(
     nodes: &&[i64],
     out: &mut [i64],
     count: usize,
     at: usize,
     to: usize,
-    month: Months,
+    plain: Month,
+    digits: Month,
     left: usize,
 ) -> usize
-    requires { ⌜ Ready (month .plain) (month .digits) (now (now nodes)) at to left × (5 * (count + (to - at)) ≤ length (now out)) ⌝ }
-    ensures { λ r. ⌜ (r + at ≤ count + to) × ((y : Ready (month .plain) (month .digits) (now (now (nodes .entry))) at to left)
+    requires { ⌜ Ready (plain .0) (digits .0) (now (now nodes)) at to left × (5 * (count + (to - at)) ≤ length (now out)) ⌝ }
+    ensures { λ r. ⌜ (r + at ≤ count + to) × ((y : Ready (plain .0) (digits .0) (now (now (nodes .entry))) at to left)
         → Appended (now (out .entry)) (now (out .exit)) count r (plainRows payoffForm (payoffTrees (compilePlan (y .month) (y .plan)) end))) ⌝ }
 {
     let letter = node::plan_kind(nodes, at);
     match letter {
         PlanLetter::Nothing => copies::put_letter(out, count, 90),
-        PlanLetter::Transfer => rows::put_leaf(nodes, out, count, at, month),
+        PlanLetter::Transfer => rows::put_leaf(nodes, out, count, at, plain, digits),
         PlanLetter::Scale => {
             let second = nodes::link(nodes, at, 3);
             let a = copies::put_letter(out, count, 83);
-            let b = compile_rows(nodes, out, a, at + 1, second, month);
-            compile_plan(nodes, out, b, second, to, month, left - 1)
+            let b = compile_rows(nodes, out, a, at + 1, second, plain, digits);
+            compile_plan(nodes, out, b, second, to, plain, digits, left - 1)
         }
         PlanLetter::Later => {
-            let next = months::later(month, rows::delay(nodes, at));
-            compile_plan(nodes, out, count, at + 1, to, next, left - 1)
+            let d = rows::delay(nodes, at);
+            let p = months::later_plain(plain, d);
+            let g = months::later_digits(digits, d);
+            compile_plan(nodes, out, count, at + 1, to, p, g, left - 1)
         }
         PlanLetter::Both => {
             let second = nodes::link(nodes, at, 3);
             let a = copies::put_letter(out, count, 66);
-            let b = compile_plan(nodes, out, a, at + 1, second, month, left - 1);
-            compile_plan(nodes, out, b, second, to, month, left - 1)
+            let b = compile_plan(nodes, out, a, at + 1, second, plain, digits, left - 1);
+            compile_plan(nodes, out, b, second, to, plain, digits, left - 1)
         }
         PlanLetter::Within => {
             let second = nodes::link(nodes, at, 3);
             let third = nodes::link(nodes, at, 4);
             let a = copies::copy_row(nodes, out, count, at);
-            let b = compile_rows(nodes, out, a, at + 1, second, month);
-            let c = compile_plan(nodes, out, b, second, third, month, left - 1);
-            compile_plan(nodes, out, c, third, to, month, left - 1)
+            let b = compile_rows(nodes, out, a, at + 1, second, plain, digits);
+            let c = compile_plan(nodes, out, b, second, third, plain, digits, left - 1);
+            compile_plan(nodes, out, c, third, to, plain, digits, left - 1)
         }
         PlanLetter::NoPlan => count,
     }

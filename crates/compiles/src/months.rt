@@ -1,20 +1,15 @@
 // The sum of all delays above a node, and one delay or offset more.
+// It is two numbers: `plain`, a number of months, and `digits`, how often each setting is added, as digits in base 32.
 ghost use mathlib.Core.Path.{_≡_};
 ghost use mathlib.Core.Bool.{true};
 ghost use Prim.Native.Nat.{_<_, _≤_, _^_};
-ghost use lib.IntN.{_+ℤ_, natAbs, pos};
+ghost use lib.IntN.{natAbs, pos};
 ghost use lib.Signed.{ltZ};
 ghost use Rattle.compiles.specs.Months.{laterDigits, laterPlain, offsetPlain, settingIn};
 ghost use Rattle.language.specs.Text.Form.{delayInForm};
 ghost use Rattle.nodes.specs.Rows.{delayFrom};
 use integers::Month;
 use tables::Range;
-
-// A number of months, and how often each setting is added, as digits in base 32.
-pub struct Months {
-    pub plain: i64,
-    pub digits: i64,
-}
 
 // 32 to the setting's number.
 fn weight(s: usize) -> Month
@@ -47,41 +42,33 @@ fn setting_of(d: Month) -> usize
     (0 - (d.0 + 1)) as usize
 }
 
-fn with_plain(m: Months, d: Month) -> Months
-    requires { ⌜ (natAbs (m .plain) ≤ 19_200) × (natAbs (d .0) ≤ 19_200) ⌝ }
-    ensures { λ r. ⌜ (r .plain ≡ m .plain +ℤ d .0) × (r .digits ≡ m .digits) ⌝ }
-{
-    Months {
-        plain: m.plain + d.0,
-        digits: m.digits,
-    }
-}
-
-fn with_digits(m: Months, w: Month) -> Months
-    requires { ⌜ (natAbs (m .digits) ≤ 1_099_511_627_776) × (natAbs (w .0) ≤ 1_099_511_627_776) ⌝ }
-    ensures { λ r. ⌜ (r .plain ≡ m .plain) × (r .digits ≡ m .digits +ℤ w .0) ⌝ }
-{
-    Months {
-        plain: m.plain,
-        digits: m.digits + w.0,
-    }
-}
-
-// The month and one more delay.
-pub fn later(m: Months, d: Month) -> Months
-    requires { ⌜ (natAbs (m .plain) ≤ 19_200) × (natAbs (m .digits) ≤ 1_099_511_627_776) × delayInForm (delayFrom (d .0)) ⌝ }
-    ensures { λ r. ⌜ (r .plain ≡ laterPlain (m .plain) (delayFrom (d .0))) × (r .digits ≡ laterDigits (m .digits) (delayFrom (d .0))) ⌝ }
+// The number of months, and one more delay.
+pub fn later_plain(plain: Month, d: Month) -> Month
+    requires { ⌜ (natAbs (plain .0) ≤ 19_200) × delayInForm (delayFrom (d .0)) ⌝ }
+    ensures { λ r. ⌜ r .0 ≡ laterPlain (plain .0) (delayFrom (d .0)) ⌝ }
 {
     if is_open(d) {
-        return with_digits(m, weight(setting_of(d)));
+        return plain;
     }
-    with_plain(m, d)
+    Month(plain.0 + d.0)
 }
 
-// The month of an `O` at this offset.
-pub fn offset_month(m: Months, i: Month) -> Months
-    requires { ⌜ natAbs (m .plain) ≤ 19_200 ⌝ }
-    ensures { λ r. ⌜ (r .plain ≡ offsetPlain (m .plain) (i .0)) × (r .digits ≡ m .digits) ⌝ }
+// The settings, and one more delay.
+pub fn later_digits(digits: Month, d: Month) -> Month
+    requires { ⌜ (natAbs (digits .0) ≤ 1_099_511_627_776) × delayInForm (delayFrom (d .0)) ⌝ }
+    ensures { λ r. ⌜ r .0 ≡ laterDigits (digits .0) (delayFrom (d .0)) ⌝ }
+{
+    if is_open(d) {
+        let w = weight(setting_of(d));
+        return Month(digits.0 + w.0);
+    }
+    digits
+}
+
+// The number of months of an `O` at this offset.
+pub fn offset_month(plain: Month, i: Month) -> Month
+    requires { ⌜ natAbs (plain .0) ≤ 19_200 ⌝ }
+    ensures { λ r. ⌜ r .0 ≡ offsetPlain (plain .0) (i .0) ⌝ }
 {
     let near = tables::is_between(
         i.0,
@@ -91,7 +78,7 @@ pub fn offset_month(m: Months, i: Month) -> Months
         },
     );
     if near {
-        return with_plain(m, i);
+        return Month(plain.0 + i.0);
     }
-    m
+    plain
 }

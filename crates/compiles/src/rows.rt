@@ -9,7 +9,6 @@ ghost use Rattle.copies.specs.Appended.{Appended};
 ghost use Rattle.nodes.specs.Pass.{rowFrom};
 ghost use Rattle.nodes.specs.Table.{RowIn, slotAt};
 use crate::months;
-use crate::months::Months;
 use copies::Row;
 use integers::Month;
 use measures::node;
@@ -23,17 +22,24 @@ pub fn delay(nodes: &&[i64], at: usize) -> Month
 }
 
 // A payment in this month, between the parties of the `T` at a node.
-pub fn put_leaf(nodes: &&[i64], out: &mut [i64], count: usize, at: usize, month: Months) -> usize
+pub fn put_leaf(
+    nodes: &&[i64],
+    out: &mut [i64],
+    count: usize,
+    at: usize,
+    plain: Month,
+    digits: Month,
+) -> usize
     requires { ⌜ RowIn (now (now nodes)) at × (5 * count + 5 ≤ length (now out)) ⌝ }
-    ensures { λ r. ⌜ Appended (now (out .entry)) (now (out .exit)) count r (pos 70 ∷ month .plain ∷ month .digits ∷ slotAt (now (now (nodes .entry))) at 1 ∷ slotAt (now (now (nodes .entry))) at 2 ∷ []) ⌝ }
+    ensures { λ r. ⌜ Appended (now (out .entry)) (now (out .exit)) count r (pos 70 ∷ plain .0 ∷ digits .0 ∷ slotAt (now (now (nodes .entry))) at 1 ∷ slotAt (now (now (nodes .entry))) at 2 ∷ []) ⌝ }
 {
     copies::put_row(
         out,
         count,
         Row {
             letter: 70,
-            a: month.plain,
-            b: month.digits,
+            a: plain.0,
+            b: digits.0,
             c: nodes::slot(nodes, at, 1),
             d: nodes::slot(nodes, at, 2),
         },
@@ -41,9 +47,16 @@ pub fn put_leaf(nodes: &&[i64], out: &mut [i64], count: usize, at: usize, month:
 }
 
 // An `O` of the label at a node, in this month.
-fn put_index(nodes: &&[i64], out: &mut [i64], count: usize, at: usize, month: Months) -> usize
+fn put_index(
+    nodes: &&[i64],
+    out: &mut [i64],
+    count: usize,
+    at: usize,
+    plain: Month,
+    digits: Month,
+) -> usize
     requires { ⌜ RowIn (now (now nodes)) at × (5 * count + 5 ≤ length (now out)) ⌝ }
-    ensures { λ r. ⌜ Appended (now (out .entry)) (now (out .exit)) count r (pos 79 ∷ slotAt (now (now (nodes .entry))) at 1 ∷ month .plain ∷ month .digits ∷ pos 0 ∷ []) ⌝ }
+    ensures { λ r. ⌜ Appended (now (out .entry)) (now (out .exit)) count r (pos 79 ∷ slotAt (now (now (nodes .entry))) at 1 ∷ plain .0 ∷ digits .0 ∷ pos 0 ∷ []) ⌝ }
 {
     copies::put_row(
         out,
@@ -51,20 +64,27 @@ fn put_index(nodes: &&[i64], out: &mut [i64], count: usize, at: usize, month: Mo
         Row {
             letter: 79,
             a: nodes::slot(nodes, at, 1),
-            b: month.plain,
-            c: month.digits,
+            b: plain.0,
+            c: digits.0,
             d: 0,
         },
     )
 }
 
-pub fn compile_row(nodes: &&[i64], out: &mut [i64], count: usize, at: usize, month: Months) -> usize
-    requires { ⌜ (natAbs (month .plain) ≤ 19_200) × RowIn (now (now nodes)) at × (5 * count + 5 ≤ length (now out)) ⌝ }
-    ensures { λ r. ⌜ Appended (now (out .entry)) (now (out .exit)) count r (compileRow (month .plain) (month .digits) (rowFrom (at * 5) (now (now (nodes .entry))))) ⌝ }
+pub fn compile_row(
+    nodes: &&[i64],
+    out: &mut [i64],
+    count: usize,
+    at: usize,
+    plain: Month,
+    digits: Month,
+) -> usize
+    requires { ⌜ (natAbs (plain .0) ≤ 19_200) × RowIn (now (now nodes)) at × (5 * count + 5 ≤ length (now out)) ⌝ }
+    ensures { λ r. ⌜ Appended (now (out .entry)) (now (out .exit)) count r (compileRow (plain .0) (digits .0) (rowFrom (at * 5) (now (now (nodes .entry))))) ⌝ }
 {
     if node::is_index(nodes, at) {
-        let m = months::offset_month(month, node::offset(nodes, at));
-        return put_index(nodes, out, count, at, m);
+        let m = months::offset_month(plain, node::offset(nodes, at));
+        return put_index(nodes, out, count, at, m, digits);
     }
     copies::copy_row(nodes, out, count, at)
 }

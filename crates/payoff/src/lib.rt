@@ -25,7 +25,6 @@ ghost use Rattle.worths.specs.Answers.{worthAnswer};
 ghost use Rattle.worths.specs.Checked.{worthIn};
 ghost use Rattle.worths.specs.Ranges.{FieldsIn, Payable, Readable};
 ghost use Rattle.writer.specs.Answers.{writtenAnswer};
-use compiles::months::Months;
 use integers::Millionths;
 use integers::Month;
 use pays::Pair;
@@ -97,11 +96,7 @@ fn compiled(nodes: &[i64], count: usize, next: &mut [i64], out: &mut [u8]) -> Wr
     ensures { λ r. ⌜ ((y : PlanRows (now (nodes .entry)) count) → (now (out .exit) ≡ compileCall (y .text) (now (out .entry)) .buffer)
         × (writingAnswer r ≡ compileCall (y .text) (now (out .entry)) .answer)) ⌝ }
 {
-    let start = Months {
-        plain: 0,
-        digits: 0,
-    };
-    let n = compiles::compile_plan(&nodes, next, 0, 0, count, start, 32);
+    let n = compiles::compile_plan(&nodes, next, 0, 0, count, Month(0), Month(0), 32);
     told(writer::write_text(next, n, 53_760, out))
 }
 

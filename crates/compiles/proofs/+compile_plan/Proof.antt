@@ -9,7 +9,8 @@ use Rattle.compiles.proofs.compile_plan.Reads as compile-plan
 use Rattle.compiles.proofs.compile_plan.Kinds as compile-plan-kinds
 use Rattle.compiles.proofs.+compile_plan.Lts-compile_plan as compile-plan-lts
 use Rattle.compiles.proofs.compile_rows.Reads as compile-rows-reads
-use Rattle.compiles.proofs.months.later.Reads as later-reads
+use Rattle.compiles.proofs.months.later_digits.Reads as later-digits-reads
+use Rattle.compiles.proofs.months.later_plain.Reads as later-plain-reads
 use Rattle.compiles.proofs.rows.delay.Reads as delay-reads
 use Rattle.compiles.proofs.rows.put_leaf.Reads as put-leaf-reads
 use Rattle.copies.proofs.copy_row.Reads as copy-row-reads
@@ -20,7 +21,7 @@ use Rattle.compiles.proofs.+compile_plan.{statement}
 use Rattle.compiles.proofs.+compile_plan.Tie.{close}
 
 abbrev μ-compile-plan : Measures 3 compile-plan-kinds.ps ℕ
-μ-compile-plan κs a = a .1 .1 .1 .1 .1 .1 .0
+μ-compile-plan κs a = a .1 .1 .1 .1 .1 .1 .1 .0
 
 abbrev compile-plan-at : ℕ → In 3 compile-plan-kinds.ps
 compile-plan-at t = and 3 compile-plan-kinds.ps (is 3 compile-plan-kinds.ps μ-compile-plan t) compile-plan.Pre
@@ -33,7 +34,7 @@ compile-plan-below t = and
     compile-plan.Pre
 
 abbrev compile-plan-calls : ℕ → compile-plan-lts.Claims
-compile-plan-calls t = (plan-kind-reads.Asked, plan-kind-reads.Learnt, put-letter-reads.Asked, put-letter-reads.Learnt, put-leaf-reads.Asked, put-leaf-reads.Learnt, link-reads.Asked, link-reads.Learnt, compile-rows-reads.Asked, compile-rows-reads.Learnt, compile-plan-below t, compile-plan.Post, delay-reads.Asked, delay-reads.Learnt, later-reads.Asked, later-reads.Learnt, copy-row-reads.Asked, copy-row-reads.Learnt)
+compile-plan-calls t = (plan-kind-reads.Asked, plan-kind-reads.Learnt, put-letter-reads.Asked, put-letter-reads.Learnt, put-leaf-reads.Asked, put-leaf-reads.Learnt, link-reads.Asked, link-reads.Learnt, compile-rows-reads.Asked, compile-rows-reads.Learnt, compile-plan-below t, compile-plan.Post, delay-reads.Asked, delay-reads.Learnt, later-plain-reads.Asked, later-plain-reads.Learnt, later-digits-reads.Asked, later-digits-reads.Learnt, copy-row-reads.Asked, copy-row-reads.Learnt)
 
 compile-plan-plan-kind-requires : (t : ℕ) → compile-plan-lts.Need-plan-kind-requires (compile-plan-calls t) (compile-plan-at t) compile-plan.Post
 compile-plan-plan-kind-requires t c κs =
@@ -88,27 +89,33 @@ compile-plan-delay-requires : (t : ℕ) → compile-plan-lts.Need-delay-requires
 compile-plan-delay-requires t c κs =
     parts.row-in (c .before .before .before .pre .1 .0)
 
-compile-plan-later-requires : (t : ℕ) → compile-plan-lts.Need-later-requires (compile-plan-calls t) (compile-plan-at t) compile-plan.Post
-compile-plan-later-requires t c κs =
+compile-plan-later-plain-requires : (t : ℕ) → compile-plan-lts.Need-later-plain-requires (compile-plan-calls t) (compile-plan-at t) compile-plan.Post
+compile-plan-later-plain-requires t c κs =
     let y = c .before .before .before .before .pre .1 .0 in
     let i = parts.by-letter y (c .before .before .before .plan-kind .ensures) (c .before .enum-told4 .given .1) in
-    (parts.plain-small y, parts.digits-small y, parts.later-in y i (c .delay .ensures))
+    (parts.plain-small y, parts.later-in y i (c .delay .ensures))
+
+compile-plan-later-digits-requires : (t : ℕ) → compile-plan-lts.Need-later-digits-requires (compile-plan-calls t) (compile-plan-at t) compile-plan.Post
+compile-plan-later-digits-requires t c κs =
+    let y = c .before .before .before .before .before .pre .1 .0 in
+    let i = parts.by-letter y (c .before .before .before .before .plan-kind .ensures) (c .before .before .enum-told4 .given .1) in
+    (parts.digits-small y, parts.later-in y i (c .before .delay .ensures))
 
 compile-plan-add-compile-plan : (t : ℕ) → compile-plan-lts.Need-add-compile-plan (compile-plan-calls t) (compile-plan-at t) compile-plan.Post
 compile-plan-add-compile-plan t c =
-    let y = c .before .before .before .before .before .before .pre .1 .0 in
+    let y = c .before .before .before .before .before .before .before .pre .1 .0 in
     record { fits = omega (arith, parts.inside y .0, parts.inside y .1) }
 
 compile-plan-sub-compile-plan-2 : (t : ℕ) → compile-plan-lts.Need-sub-compile-plan-2 (compile-plan-calls t) (compile-plan-at t) compile-plan.Post
 compile-plan-sub-compile-plan-2 t c =
-    let y = c .before .before .before .before .before .before .pre .1 .0 in
+    let y = c .before .before .before .before .before .before .before .pre .1 .0 in
     omega (arith, parts.some-left y)
 
 compile-plan-compile-plan-requires-2 : (t : ℕ) → compile-plan-lts.Need-compile-plan-requires-2 (compile-plan-calls t) (compile-plan-at t) compile-plan.Post
 compile-plan-compile-plan-requires-2 t c κs =
-    let y = c .before .before .before .before .before .before .pre .1 .0 in
-    let i = parts.by-letter y (c .before .before .before .before .before .plan-kind .ensures) (c .before .before .before .enum-told4 .given .1) in
-    (omega (arith, parts.some-left y), (parts.later-ready y i (c .before .before .delay .ensures) (c .before .later .ensures .0) (c .before .later .ensures .1), omega (arith, c .before .before .before .before .before .before .pre .1 .1, parts.inside y .0)))
+    let y = c .before .before .before .before .before .before .before .pre .1 .0 in
+    let i = parts.by-letter y (c .before .before .before .before .before .before .plan-kind .ensures) (c .before .before .before .before .enum-told4 .given .1) in
+    (omega (arith, parts.some-left y), (parts.later-ready y i (c .before .before .before .delay .ensures) (c .before .before .later-plain .ensures) (c .before .later-digits .ensures), omega (arith, c .before .before .before .before .before .before .before .pre .1 .1, parts.inside y .0)))
 
 compile-plan-link-requires-2 : (t : ℕ) → compile-plan-lts.Need-link-requires-2 (compile-plan-calls t) (compile-plan-at t) compile-plan.Post
 compile-plan-link-requires-2 t c κs =
@@ -222,7 +229,7 @@ compile-plan-returns-3 t c =
 
 compile-plan-returns-4 : (t : ℕ) → compile-plan-lts.Need-returns-4 (compile-plan-calls t) (compile-plan-at t) compile-plan.Post
 compile-plan-returns-4 t c =
-    (omega (arith, c .before .compile-plan2 .ensures .0), λ z. arms.later-arm z (parts.by-letter z (c .before .before .before .before .before .before .before .plan-kind .ensures) (c .before .before .before .before .before .enum-told4 .given .1)) (c .before .before .before .before .delay .ensures) (c .before .before .before .later .ensures .0) (c .before .before .before .later .ensures .1) (c .before .compile-plan2 .ensures .1))
+    (omega (arith, c .before .compile-plan2 .ensures .0), λ z. arms.later-arm z (parts.by-letter z (c .before .before .before .before .before .before .before .before .plan-kind .ensures) (c .before .before .before .before .before .before .enum-told4 .given .1)) (c .before .before .before .before .before .delay .ensures) (c .before .before .before .before .later-plain .ensures) (c .before .before .before .later-digits .ensures) (c .before .compile-plan2 .ensures .1))
 
 compile-plan-returns-5 : (t : ℕ) → compile-plan-lts.Need-returns-5 (compile-plan-calls t) (compile-plan-at t) compile-plan.Post
 compile-plan-returns-5 t c =
@@ -260,7 +267,8 @@ compile-plan-part t =
     (compile-plan-compile-plan-requires t)
     (λ c. search needs)
     (compile-plan-delay-requires t)
-    (compile-plan-later-requires t)
+    (compile-plan-later-plain-requires t)
+    (compile-plan-later-digits-requires t)
     (compile-plan-add-compile-plan t)
     (compile-plan-sub-compile-plan-2 t)
     (compile-plan-compile-plan-requires-2 t)

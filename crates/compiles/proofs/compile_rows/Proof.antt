@@ -10,16 +10,16 @@ use Rattle.compiles.proofs.compile_rows.Statement.{statement}
 use Rattle.compiles.proofs.compile_rows.Tie as tie
 
 abbrev Inv-loop : tie.InvT-loop
-Inv-loop nodes out₀ count from to month next₀ at₀ out next at = (from ≤ at) × (at ≤ to) × Copied (compileRow (month .plain) (month .digits)) (nodes .now) from at out₀ out count next
+Inv-loop nodes out₀ count from to plain digits next₀ at₀ out next at = (from ≤ at) × (at ≤ to) × Copied (compileRow (plain .0) (digits .0)) (nodes .now) from at out₀ out count next
 
 abbrev μ-loop : tie.MeasureT-loop
-μ-loop nodes out₀ count from to month next₀ at₀ out next at = to - at
+μ-loop nodes out₀ count from to plain digits next₀ at₀ out next at = to - at
 
 loop-holds : tie.Need-loop-holds Inv-loop μ-loop
 loop-holds c =
     let s = c in
     let a = s .args in
-    (omega arith, omega (arith, s .pre .1), copied-none (compileRow (a .month .plain) (a .month .digits)) (a .nodes .now .now) (a .from) (a .out .now) (a .count))
+    (omega arith, omega (arith, s .pre .1), copied-none (compileRow (a .plain .0) (a .digits .0)) (a .nodes .now .now) (a .from) (a .out .now) (a .count))
 
 compile-row-requires : tie.Need-compile-row-requires Inv-loop μ-loop
 compile-row-requires c κs =
@@ -39,7 +39,7 @@ loop-again : tie.Need-loop-again Inv-loop μ-loop
 loop-again c =
     let a = c .before .before .before .before .before .args in
     let l = c .before .before .before .before .loop in
-    (omega (arith, l .inv .0), omega (arith, c .before .before .before .loop-test .taken), copied-next (compileRow (a .month .plain) (a .month .digits)) (a .nodes .now .now) (a .from) (l .inv .0) (compile-five (a .month .plain) (a .month .digits) (rowFrom (l .at * 5) (a .nodes .now .now))) (l .inv .2) (c .before .compile-row .ensures))
+    (omega (arith, l .inv .0), omega (arith, c .before .before .before .loop-test .taken), copied-next (compileRow (a .plain .0) (a .digits .0)) (a .nodes .now .now) (a .from) (l .inv .0) (compile-five (a .plain .0) (a .digits .0) (rowFrom (l .at * 5) (a .nodes .now .now))) (l .inv .2) (c .before .compile-row .ensures))
 
 same-length : tie.Need-same-length Inv-loop μ-loop
 same-length c =
@@ -50,7 +50,7 @@ returns c =
     let l = c .before .loop in
     let a = c .before .before .args in
     let e : l .at ≡ a .to = omega (arith, c .loop-test .left, l .inv .1) in
-    subst (λ to. Copied (compileRow (a .month .plain) (a .month .digits)) (a .nodes .now .now) (a .from) to (a .out .now) (l .out) (a .count) (l .next)) e (l .inv .2)
+    subst (λ to. Copied (compileRow (a .plain .0) (a .digits .0)) (a .nodes .now .now) (a .from) to (a .out .now) (l .out) (a .count) (l .next)) e (l .inv .2)
 
 pub compile-rows-spec : {M : Type 1} → statement M
 compile-rows-spec =

@@ -24,7 +24,7 @@ returns : tie.Need-returns
 returns c =
     let a = c .before .before .before .before .before .before .before .args in
     let m = c .before .before .before .offset-month in
-    appended-as (index-compiled (a .month .plain) (a .month .digits) (a .nodes .now .now) (a .at) (sym (c .before .before .before .before .before .before .is-index .ensures) ∙ c .before .before .before .before .before .if1 .taken) (c .before .before .before .before .offset .ensures) (m .ensures .0) (m .ensures .1)) (c .before .put-index .ensures)
+    appended-as (index-compiled (a .plain .0) (a .digits .0) (a .nodes .now .now) (a .at) (sym (c .before .before .before .before .before .before .is-index .ensures) ∙ c .before .before .before .before .before .if1 .taken) (c .before .before .before .before .offset .ensures) (m .ensures)) (c .before .put-index .ensures)
 
 copy-row-requires : tie.Need-copy-row-requires
 copy-row-requires c κs = search needs
@@ -35,7 +35,7 @@ same-length-2 c = search needs
 returns-2 : tie.Need-returns-2
 returns-2 c =
     let a = c .before .before .before .before .before .args in
-    appended-as (other-compiled (a .month .plain) (a .month .digits) (a .nodes .now .now) (a .at) (sym (c .before .before .before .before .is-index .ensures) ∙ c .before .before .before .if1 .left)) (c .before .copy-row .ensures)
+    appended-as (other-compiled (a .plain .0) (a .digits .0) (a .nodes .now .now) (a .at) (sym (c .before .before .before .before .is-index .ensures) ∙ c .before .before .before .if1 .left)) (c .before .copy-row .ensures)
 
 pub compile-row-spec : {M : Type 1} → statement M
 compile-row-spec =

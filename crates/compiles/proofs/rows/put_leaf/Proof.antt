@@ -21,11 +21,11 @@ same-length c = search needs
 
 returns : tie.Need-returns
 returns c =
-    let a = c .before .before .before .before .before .before .args in
-    let p : SFits w64 (a .month .plain) = search needs in
-    let q : SFits w64 (a .month .digits) = search needs in
-    let x = c .before .before .before .before .slot in
-    let y = c .before .before .before .slot2 in
+    let a = c .before .before .before .before .before .before .before .args in
+    let p : SFits w64 (a .plain .0) = search needs in
+    let q : SFits w64 (a .digits .0) = search needs in
+    let x = c .before .before .before .before .before .slot in
+    let y = c .before .before .before .before .slot2 in
     let f : SFits w64 (x .result) = search needs in
     let g : SFits w64 (y .result) = search needs in
     appended-as (row-of refl (toZ-ofZ p) (toZ-ofZ q) (toZ-ofZ f ∙ x .ensures) (toZ-ofZ g ∙ y .ensures)) (c .before .put-row .ensures)
