@@ -27,7 +27,6 @@ use amounts::four::Held;
 use amounts::four_rows;
 use integers::Month;
 use integers::Pence;
-use tables::Span;
 use tables::lookup;
 use tables::lookup::Place;
 
@@ -116,14 +115,16 @@ pub fn reading(
     nodes: &&[i64],
     values: &&[i64],
     bounds: &&[i64],
-    span: Span,
+    h: Month,
+    f: Month,
     waited: Month,
     at: usize,
 ) -> FourValues
-    requires { ⌜ RowIn (now (now nodes)) at × Readable (span .h) (span .f) (now (now bounds)) (now (now values)) × FourWaited (waited .0) × Near (slotAt (now (now nodes)) at 2) ⌝ }
-    ensures { λ r. ⌜ SureFour r (λ k. readingIn (span .h) (span .f) (now (now (bounds .entry))) (now (now (values .entry))) (natOf (slotAt (now (now (nodes .entry))) at 1)) (pos (natOf (waited .0) + k) +ℤ slotAt (now (now (nodes .entry))) at 2)) ⌝ }
+    requires { ⌜ RowIn (now (now nodes)) at × Readable (h .0) (f .0) (now (now bounds)) (now (now values)) × FourWaited (waited .0) × Near (slotAt (now (now nodes)) at 2) ⌝ }
+    ensures { λ r. ⌜ SureFour r (λ k. readingIn (h .0) (f .0) (now (now (bounds .entry))) (now (now (values .entry))) (natOf (slotAt (now (now (nodes .entry))) at 1)) (pos (natOf (waited .0) + k) +ℤ slotAt (now (now (nodes .entry))) at 2)) ⌝ }
 {
     let first = integers::later(waited, rows::month_at(nodes, at, 2));
+    let span = rows::span_of(h, f);
     let place = lookup::four_places(*bounds, span, rows::label(nodes, at), first);
     match place {
         Place::At(i) => values_at(*values, i),

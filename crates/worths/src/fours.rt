@@ -15,25 +15,25 @@ use amounts::four::Held;
 use integers::Month;
 use nodes::AmountLetter;
 use nodes::TestLetter;
-use tables::Span;
 
 // An `N` or an `O`; of any other letter nothing is said. Both here, so that `operands` is small.
 fn leaves(
     nodes: &&[i64],
     values: &&[i64],
     bounds: &&[i64],
-    span: Span,
+    h: Month,
+    f: Month,
     waited: Month,
     at: usize,
     left: usize,
 ) -> FourValues
-    requires { ⌜ Readable (span .h) (span .f) (now (now bounds)) (now (now values)) × FourWaited (waited .0) × AmountStands left (now (now nodes)) at × fieldsOfAmount Near (amountAt offsetOf left (now (now nodes)) at) ⌝ }
-    ensures { λ r. ⌜ SureFour r (λ k. valueIn (span .h) (span .f) (now (now (bounds .entry))) (now (now (values .entry))) (amountAt offsetOf left (now (now (nodes .entry))) at) (natOf (waited .0) + k)) ⌝ }
+    requires { ⌜ Readable (h .0) (f .0) (now (now bounds)) (now (now values)) × FourWaited (waited .0) × AmountStands left (now (now nodes)) at × fieldsOfAmount Near (amountAt offsetOf left (now (now nodes)) at) ⌝ }
+    ensures { λ r. ⌜ SureFour r (λ k. valueIn (h .0) (f .0) (now (now (bounds .entry))) (now (now (values .entry))) (amountAt offsetOf left (now (now (nodes .entry))) at) (natOf (waited .0) + k)) ⌝ }
 {
     let x = nodes::slot(nodes, at, 0);
     match x {
         78 => four::number(nodes, at),
-        79 => four::reading(nodes, values, bounds, span, waited, at),
+        79 => four::reading(nodes, values, bounds, h, f, waited, at),
         _ => four::unsure(),
     }
 }
@@ -43,18 +43,19 @@ pub fn operands(
     nodes: &&[i64],
     values: &&[i64],
     bounds: &&[i64],
-    span: Span,
+    h: Month,
+    f: Month,
     waited: Month,
     at: usize,
     left: usize,
 ) -> FourValues
-    requires { ⌜ Readable (span .h) (span .f) (now (now bounds)) (now (now values)) × FourWaited (waited .0) × AmountStands left (now (now nodes)) at × fieldsOfAmount Near (amountAt offsetOf left (now (now nodes)) at) ⌝ }
-    ensures { λ r. ⌜ SureFour r (λ k. valueIn (span .h) (span .f) (now (now (bounds .entry))) (now (now (values .entry))) (amountAt offsetOf left (now (now (nodes .entry))) at) (natOf (waited .0) + k)) ⌝ }
+    requires { ⌜ Readable (h .0) (f .0) (now (now bounds)) (now (now values)) × FourWaited (waited .0) × AmountStands left (now (now nodes)) at × fieldsOfAmount Near (amountAt offsetOf left (now (now nodes)) at) ⌝ }
+    ensures { λ r. ⌜ SureFour r (λ k. valueIn (h .0) (f .0) (now (now (bounds .entry))) (now (now (values .entry))) (amountAt offsetOf left (now (now (nodes .entry))) at) (natOf (waited .0) + k)) ⌝ }
 {
     let x = nodes::slot(nodes, at, 0);
     match x {
-        78 | 79 => leaves(nodes, values, bounds, span, waited, at, left),
-        _ => amounts(nodes, values, bounds, span, waited, at, left),
+        78 | 79 => leaves(nodes, values, bounds, h, f, waited, at, left),
+        _ => amounts(nodes, values, bounds, h, f, waited, at, left),
     }
 }
 
@@ -63,25 +64,27 @@ pub fn amounts(
     nodes: &&[i64],
     values: &&[i64],
     bounds: &&[i64],
-    span: Span,
+    h: Month,
+    f: Month,
     waited: Month,
     at: usize,
     left: usize,
 ) -> FourValues
-    requires { ⌜ Readable (span .h) (span .f) (now (now bounds)) (now (now values)) × FourWaited (waited .0) × AmountStands left (now (now nodes)) at × fieldsOfAmount Near (amountAt offsetOf left (now (now nodes)) at) ⌝ }
-    ensures { λ r. ⌜ SureFour r (λ k. valueIn (span .h) (span .f) (now (now (bounds .entry))) (now (now (values .entry))) (amountAt offsetOf left (now (now (nodes .entry))) at) (natOf (waited .0) + k)) ⌝ }
+    requires { ⌜ Readable (h .0) (f .0) (now (now bounds)) (now (now values)) × FourWaited (waited .0) × AmountStands left (now (now nodes)) at × fieldsOfAmount Near (amountAt offsetOf left (now (now nodes)) at) ⌝ }
+    ensures { λ r. ⌜ SureFour r (λ k. valueIn (h .0) (f .0) (now (now (bounds .entry))) (now (now (values .entry))) (amountAt offsetOf left (now (now (nodes .entry))) at) (natOf (waited .0) + k)) ⌝ }
 {
     let letter = nodes::amount_letter(nodes::slot(nodes, at, 0));
     match letter {
         AmountLetter::Number => four::number(nodes, at),
-        AmountLetter::Index => four::reading(nodes, values, bounds, span, waited, at),
+        AmountLetter::Index => four::reading(nodes, values, bounds, h, f, waited, at),
         AmountLetter::Sum => {
-            let x = operands(nodes, values, bounds, span, waited, at + 1, left - 1);
+            let x = operands(nodes, values, bounds, h, f, waited, at + 1, left - 1);
             let y = operands(
                 nodes,
                 values,
                 bounds,
-                span,
+                h,
+                f,
                 waited,
                 nodes::link(nodes, at, 3),
                 left - 1,
@@ -89,12 +92,13 @@ pub fn amounts(
             four::sum_of(x, y)
         }
         AmountLetter::Difference => {
-            let x = operands(nodes, values, bounds, span, waited, at + 1, left - 1);
+            let x = operands(nodes, values, bounds, h, f, waited, at + 1, left - 1);
             let y = operands(
                 nodes,
                 values,
                 bounds,
-                span,
+                h,
+                f,
                 waited,
                 nodes::link(nodes, at, 3),
                 left - 1,
@@ -102,12 +106,13 @@ pub fn amounts(
             four::difference_of(x, y)
         }
         AmountLetter::Product => {
-            let x = operands(nodes, values, bounds, span, waited, at + 1, left - 1);
+            let x = operands(nodes, values, bounds, h, f, waited, at + 1, left - 1);
             let y = operands(
                 nodes,
                 values,
                 bounds,
-                span,
+                h,
+                f,
                 waited,
                 nodes::link(nodes, at, 3),
                 left - 1,
@@ -115,16 +120,17 @@ pub fn amounts(
             four::product_of(x, y)
         }
         AmountLetter::Quotient => {
-            let x = operands(nodes, values, bounds, span, waited, at + 1, left - 1);
+            let x = operands(nodes, values, bounds, h, f, waited, at + 1, left - 1);
             four::over(nodes, at, x)
         }
         AmountLetter::Choose => {
-            let t = tests(nodes, values, bounds, span, waited, at + 1, left - 1);
+            let t = tests(nodes, values, bounds, h, f, waited, at + 1, left - 1);
             let x = operands(
                 nodes,
                 values,
                 bounds,
-                span,
+                h,
+                f,
                 waited,
                 nodes::link(nodes, at, 3),
                 left - 1,
@@ -133,7 +139,8 @@ pub fn amounts(
                 nodes,
                 values,
                 bounds,
-                span,
+                h,
+                f,
                 waited,
                 nodes::link(nodes, at, 4),
                 left - 1,
@@ -149,23 +156,25 @@ pub fn tests(
     nodes: &&[i64],
     values: &&[i64],
     bounds: &&[i64],
-    span: Span,
+    h: Month,
+    f: Month,
     waited: Month,
     at: usize,
     left: usize,
 ) -> FourTests
-    requires { ⌜ Readable (span .h) (span .f) (now (now bounds)) (now (now values)) × FourWaited (waited .0) × TestStands left (now (now nodes)) at × fieldsOfTest Near (testAt offsetOf left (now (now nodes)) at) ⌝ }
-    ensures { λ r. ⌜ SureTests r (λ k. testIn (span .h) (span .f) (now (now (bounds .entry))) (now (now (values .entry))) (testAt offsetOf left (now (now (nodes .entry))) at) (natOf (waited .0) + k)) ⌝ }
+    requires { ⌜ Readable (h .0) (f .0) (now (now bounds)) (now (now values)) × FourWaited (waited .0) × TestStands left (now (now nodes)) at × fieldsOfTest Near (testAt offsetOf left (now (now nodes)) at) ⌝ }
+    ensures { λ r. ⌜ SureTests r (λ k. testIn (h .0) (f .0) (now (now (bounds .entry))) (now (now (values .entry))) (testAt offsetOf left (now (now (nodes .entry))) at) (natOf (waited .0) + k)) ⌝ }
 {
     let letter = nodes::test_letter(nodes::slot(nodes, at, 0));
     match letter {
         TestLetter::Less => {
-            let x = operands(nodes, values, bounds, span, waited, at + 1, left - 1);
+            let x = operands(nodes, values, bounds, h, f, waited, at + 1, left - 1);
             let y = operands(
                 nodes,
                 values,
                 bounds,
-                span,
+                h,
+                f,
                 waited,
                 nodes::link(nodes, at, 3),
                 left - 1,
@@ -173,12 +182,13 @@ pub fn tests(
             four::less_than(x, y)
         }
         TestLetter::Equal => {
-            let x = operands(nodes, values, bounds, span, waited, at + 1, left - 1);
+            let x = operands(nodes, values, bounds, h, f, waited, at + 1, left - 1);
             let y = operands(
                 nodes,
                 values,
                 bounds,
-                span,
+                h,
+                f,
                 waited,
                 nodes::link(nodes, at, 3),
                 left - 1,
@@ -186,12 +196,13 @@ pub fn tests(
             four::equal_to(x, y)
         }
         TestLetter::Conjunction => {
-            let x = tests(nodes, values, bounds, span, waited, at + 1, left - 1);
+            let x = tests(nodes, values, bounds, h, f, waited, at + 1, left - 1);
             let y = tests(
                 nodes,
                 values,
                 bounds,
-                span,
+                h,
+                f,
                 waited,
                 nodes::link(nodes, at, 3),
                 left - 1,
@@ -199,12 +210,13 @@ pub fn tests(
             four::both_hold(x, y)
         }
         TestLetter::Disjunction => {
-            let x = tests(nodes, values, bounds, span, waited, at + 1, left - 1);
+            let x = tests(nodes, values, bounds, h, f, waited, at + 1, left - 1);
             let y = tests(
                 nodes,
                 values,
                 bounds,
-                span,
+                h,
+                f,
                 waited,
                 nodes::link(nodes, at, 3),
                 left - 1,
@@ -212,7 +224,7 @@ pub fn tests(
             four::one_holds(x, y)
         }
         TestLetter::Negation => {
-            let x = tests(nodes, values, bounds, span, waited, at + 1, left - 1);
+            let x = tests(nodes, values, bounds, h, f, waited, at + 1, left - 1);
             four::opposite(x)
         }
         TestLetter::NoTest => FourTests {

@@ -17,7 +17,6 @@ use integers::Millionths;
 use integers::Month;
 use integers::Pence;
 use pays::Pair;
-use tables::Span;
 use text::Refusal;
 
 // One penny from the leaf's first party to its second, as the pair counts it.
@@ -58,18 +57,18 @@ pub fn earlier(m: Month, n: Month) -> bool
 pub fn leaf_worth(
     nodes: &&[i64],
     factors: &[i64],
-    span: Span,
+    f: Month,
     waited: Month,
     start: Month,
     pair: Pair,
     at: usize,
 ) -> Worth
-    requires { ⌜ RowIn (now (now nodes)) at × Payable (span .f) (now factors) × Waited (waited .0) × PairIn (pair .p) (pair .q) × Near (slotAt (now (now nodes)) at 1) ⌝ }
-    ensures { λ r. ⌜ worthAnswer r ≡ leafIn (span .f) (now (factors .entry)) (start .0) (slotAt (now (now (nodes .entry))) at 1 +ℤ pos (natOf (waited .0)))
+    requires { ⌜ RowIn (now (now nodes)) at × Payable (f .0) (now factors) × Waited (waited .0) × PairIn (pair .p) (pair .q) × Near (slotAt (now (now nodes)) at 1) ⌝ }
+    ensures { λ r. ⌜ worthAnswer r ≡ leafIn (f .0) (now (factors .entry)) (start .0) (slotAt (now (now (nodes .entry))) at 1 +ℤ pos (natOf (waited .0)))
         (signOf (pair .p) (pair .q) (natOf (slotAt (now (now (nodes .entry))) at 3)) (natOf (slotAt (now (now (nodes .entry))) at 4))) ⌝ }
 {
     let month = integers::later(rows::month_at(nodes, at, 1), waited);
-    if tables::month_ok(span.f, month.0) {
+    if tables::month_ok(f.0, month.0) {
         if earlier(month, start) {
             return Worth::Value(Millionths(0));
         }

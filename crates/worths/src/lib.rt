@@ -14,7 +14,6 @@ use integers::Month;
 use integers::Pence;
 use nodes::AmountLetter;
 use nodes::TestLetter;
-use tables::Span;
 
 pub mod answers;
 pub mod coded;
@@ -30,19 +29,20 @@ pub fn checked_operand(
     nodes: &&[i64],
     values: &&[i64],
     bounds: &&[i64],
-    span: Span,
+    h: Month,
+    f: Month,
     waited: Month,
     at: usize,
     left: usize,
 ) -> Valued
-    requires { ⌜ Readable (span .h) (span .f) (now (now bounds)) (now (now values)) × Waited (waited .0) × AmountStands left (now (now nodes)) at × fieldsOfAmount Near (amountAt offsetOf left (now (now nodes)) at) ⌝ }
-    ensures { λ r. ⌜ valuedAnswer r ≡ valueIn (span .h) (span .f) (now (now (bounds .entry))) (now (now (values .entry))) (amountAt offsetOf left (now (now (nodes .entry))) at) (natOf (waited .0)) ⌝ }
+    requires { ⌜ Readable (h .0) (f .0) (now (now bounds)) (now (now values)) × Waited (waited .0) × AmountStands left (now (now nodes)) at × fieldsOfAmount Near (amountAt offsetOf left (now (now nodes)) at) ⌝ }
+    ensures { λ r. ⌜ valuedAnswer r ≡ valueIn (h .0) (f .0) (now (now (bounds .entry))) (now (now (values .entry))) (amountAt offsetOf left (now (now (nodes .entry))) at) (natOf (waited .0)) ⌝ }
 {
     let x = nodes::slot(nodes, at, 0);
     match x {
         78 => rows::number(nodes, at),
-        79 => rows::reading(nodes, values, bounds, span, waited, at),
-        _ => coded::valued(checked_value(nodes, values, bounds, span, waited, at, left)),
+        79 => rows::reading(nodes, values, bounds, h, f, waited, at),
+        _ => coded::valued(checked_value(nodes, values, bounds, h, f, waited, at, left)),
     }
 }
 
@@ -51,15 +51,16 @@ pub fn checked_value(
     nodes: &&[i64],
     values: &&[i64],
     bounds: &&[i64],
-    span: Span,
+    h: Month,
+    f: Month,
     waited: Month,
     at: usize,
     left: usize,
 ) -> i64
-    requires { ⌜ Readable (span .h) (span .f) (now (now bounds)) (now (now values)) × Waited (waited .0) × AmountStands left (now (now nodes)) at × fieldsOfAmount Near (amountAt offsetOf left (now (now nodes)) at) ⌝ }
-    ensures { λ r. ⌜ valuedIn r ≡ valueIn (span .h) (span .f) (now (now (bounds .entry))) (now (now (values .entry))) (amountAt offsetOf left (now (now (nodes .entry))) at) (natOf (waited .0)) ⌝ }
+    requires { ⌜ Readable (h .0) (f .0) (now (now bounds)) (now (now values)) × Waited (waited .0) × AmountStands left (now (now nodes)) at × fieldsOfAmount Near (amountAt offsetOf left (now (now nodes)) at) ⌝ }
+    ensures { λ r. ⌜ valuedIn r ≡ valueIn (h .0) (f .0) (now (now (bounds .entry))) (now (now (values .entry))) (amountAt offsetOf left (now (now (nodes .entry))) at) (natOf (waited .0)) ⌝ }
 {
-    coded::code(amount_here(nodes, values, bounds, span, waited, at, left))
+    coded::code(amount_here(nodes, values, bounds, h, f, waited, at, left))
 }
 
 // The same; of an `I` only the chosen branch.
@@ -67,25 +68,27 @@ fn amount_here(
     nodes: &&[i64],
     values: &&[i64],
     bounds: &&[i64],
-    span: Span,
+    h: Month,
+    f: Month,
     waited: Month,
     at: usize,
     left: usize,
 ) -> Valued
-    requires { ⌜ Readable (span .h) (span .f) (now (now bounds)) (now (now values)) × Waited (waited .0) × AmountStands left (now (now nodes)) at × fieldsOfAmount Near (amountAt offsetOf left (now (now nodes)) at) ⌝ }
-    ensures { λ r. ⌜ valuedAnswer r ≡ valueIn (span .h) (span .f) (now (now (bounds .entry))) (now (now (values .entry))) (amountAt offsetOf left (now (now (nodes .entry))) at) (natOf (waited .0)) ⌝ }
+    requires { ⌜ Readable (h .0) (f .0) (now (now bounds)) (now (now values)) × Waited (waited .0) × AmountStands left (now (now nodes)) at × fieldsOfAmount Near (amountAt offsetOf left (now (now nodes)) at) ⌝ }
+    ensures { λ r. ⌜ valuedAnswer r ≡ valueIn (h .0) (f .0) (now (now (bounds .entry))) (now (now (values .entry))) (amountAt offsetOf left (now (now (nodes .entry))) at) (natOf (waited .0)) ⌝ }
 {
     let letter = nodes::amount_letter(nodes::slot(nodes, at, 0));
     match letter {
         AmountLetter::Number => rows::number(nodes, at),
-        AmountLetter::Index => rows::reading(nodes, values, bounds, span, waited, at),
+        AmountLetter::Index => rows::reading(nodes, values, bounds, h, f, waited, at),
         AmountLetter::Sum => {
-            let x = checked_operand(nodes, values, bounds, span, waited, at + 1, left - 1);
+            let x = checked_operand(nodes, values, bounds, h, f, waited, at + 1, left - 1);
             let y = checked_operand(
                 nodes,
                 values,
                 bounds,
-                span,
+                h,
+                f,
                 waited,
                 nodes::link(nodes, at, 3),
                 left - 1,
@@ -93,12 +96,13 @@ fn amount_here(
             answers::sum_of(x, y)
         }
         AmountLetter::Difference => {
-            let x = checked_operand(nodes, values, bounds, span, waited, at + 1, left - 1);
+            let x = checked_operand(nodes, values, bounds, h, f, waited, at + 1, left - 1);
             let y = checked_operand(
                 nodes,
                 values,
                 bounds,
-                span,
+                h,
+                f,
                 waited,
                 nodes::link(nodes, at, 3),
                 left - 1,
@@ -106,12 +110,13 @@ fn amount_here(
             answers::difference_of(x, y)
         }
         AmountLetter::Product => {
-            let x = checked_operand(nodes, values, bounds, span, waited, at + 1, left - 1);
+            let x = checked_operand(nodes, values, bounds, h, f, waited, at + 1, left - 1);
             let y = checked_operand(
                 nodes,
                 values,
                 bounds,
-                span,
+                h,
+                f,
                 waited,
                 nodes::link(nodes, at, 3),
                 left - 1,
@@ -119,17 +124,18 @@ fn amount_here(
             answers::product_of(x, y)
         }
         AmountLetter::Quotient => {
-            let x = checked_operand(nodes, values, bounds, span, waited, at + 1, left - 1);
+            let x = checked_operand(nodes, values, bounds, h, f, waited, at + 1, left - 1);
             rows::over(nodes, at, x)
         }
         AmountLetter::Choose => {
-            let t = checked_holds(nodes, values, bounds, span, waited, at + 1, left - 1);
+            let t = checked_holds(nodes, values, bounds, h, f, waited, at + 1, left - 1);
             match t {
                 Tested::Holds => checked_operand(
                     nodes,
                     values,
                     bounds,
-                    span,
+                    h,
+                    f,
                     waited,
                     nodes::link(nodes, at, 3),
                     left - 1,
@@ -138,7 +144,8 @@ fn amount_here(
                     nodes,
                     values,
                     bounds,
-                    span,
+                    h,
+                    f,
                     waited,
                     nodes::link(nodes, at, 4),
                     left - 1,
@@ -155,23 +162,25 @@ pub fn checked_holds(
     nodes: &&[i64],
     values: &&[i64],
     bounds: &&[i64],
-    span: Span,
+    h: Month,
+    f: Month,
     waited: Month,
     at: usize,
     left: usize,
 ) -> Tested
-    requires { ⌜ Readable (span .h) (span .f) (now (now bounds)) (now (now values)) × Waited (waited .0) × TestStands left (now (now nodes)) at × fieldsOfTest Near (testAt offsetOf left (now (now nodes)) at) ⌝ }
-    ensures { λ r. ⌜ testedAnswer r ≡ testIn (span .h) (span .f) (now (now (bounds .entry))) (now (now (values .entry))) (testAt offsetOf left (now (now (nodes .entry))) at) (natOf (waited .0)) ⌝ }
+    requires { ⌜ Readable (h .0) (f .0) (now (now bounds)) (now (now values)) × Waited (waited .0) × TestStands left (now (now nodes)) at × fieldsOfTest Near (testAt offsetOf left (now (now nodes)) at) ⌝ }
+    ensures { λ r. ⌜ testedAnswer r ≡ testIn (h .0) (f .0) (now (now (bounds .entry))) (now (now (values .entry))) (testAt offsetOf left (now (now (nodes .entry))) at) (natOf (waited .0)) ⌝ }
 {
     let letter = nodes::test_letter(nodes::slot(nodes, at, 0));
     match letter {
         TestLetter::Less => {
-            let x = checked_operand(nodes, values, bounds, span, waited, at + 1, left - 1);
+            let x = checked_operand(nodes, values, bounds, h, f, waited, at + 1, left - 1);
             let y = checked_operand(
                 nodes,
                 values,
                 bounds,
-                span,
+                h,
+                f,
                 waited,
                 nodes::link(nodes, at, 3),
                 left - 1,
@@ -179,12 +188,13 @@ pub fn checked_holds(
             answers::less_than(x, y)
         }
         TestLetter::Equal => {
-            let x = checked_operand(nodes, values, bounds, span, waited, at + 1, left - 1);
+            let x = checked_operand(nodes, values, bounds, h, f, waited, at + 1, left - 1);
             let y = checked_operand(
                 nodes,
                 values,
                 bounds,
-                span,
+                h,
+                f,
                 waited,
                 nodes::link(nodes, at, 3),
                 left - 1,
@@ -192,12 +202,13 @@ pub fn checked_holds(
             answers::equal_to(x, y)
         }
         TestLetter::Conjunction => {
-            let x = checked_holds(nodes, values, bounds, span, waited, at + 1, left - 1);
+            let x = checked_holds(nodes, values, bounds, h, f, waited, at + 1, left - 1);
             let y = checked_holds(
                 nodes,
                 values,
                 bounds,
-                span,
+                h,
+                f,
                 waited,
                 nodes::link(nodes, at, 3),
                 left - 1,
@@ -205,12 +216,13 @@ pub fn checked_holds(
             answers::both_hold(x, y)
         }
         TestLetter::Disjunction => {
-            let x = checked_holds(nodes, values, bounds, span, waited, at + 1, left - 1);
+            let x = checked_holds(nodes, values, bounds, h, f, waited, at + 1, left - 1);
             let y = checked_holds(
                 nodes,
                 values,
                 bounds,
-                span,
+                h,
+                f,
                 waited,
                 nodes::link(nodes, at, 3),
                 left - 1,
@@ -218,7 +230,7 @@ pub fn checked_holds(
             answers::one_holds(x, y)
         }
         TestLetter::Negation => {
-            let x = checked_holds(nodes, values, bounds, span, waited, at + 1, left - 1);
+            let x = checked_holds(nodes, values, bounds, h, f, waited, at + 1, left - 1);
             answers::opposite(x)
         }
         TestLetter::NoTest => Tested::Fails,

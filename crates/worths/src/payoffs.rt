@@ -21,7 +21,6 @@ use integers::Millionths;
 use integers::Month;
 use nodes::PayoffLetter;
 use pays::Pair;
-use tables::Span;
 
 // The payoff at a node, with some months waited. A leaf that is not cut counts from month 0 on, a cut one from month `start` on.
 pub fn payoff_worth(
@@ -29,29 +28,31 @@ pub fn payoff_worth(
     factors: &[i64],
     values: &&[i64],
     bounds: &&[i64],
-    span: Span,
+    h: Month,
+    f: Month,
     waited: Month,
     start: Month,
     pair: Pair,
     at: usize,
     left: usize,
 ) -> Worth
-    requires { ⌜ Readable (span .h) (span .f) (now (now bounds)) (now (now values)) × Payable (span .f) (now factors) × WaitedAt left (waited .0) × T (nonNeg (start .0)) × PairIn (pair .p) (pair .q)
+    requires { ⌜ Readable (h .0) (f .0) (now (now bounds)) (now (now values)) × Payable (f .0) (now factors) × WaitedAt left (waited .0) × T (nonNeg (start .0)) × PairIn (pair .p) (pair .q)
         × PayoffStands left (now (now nodes)) at × FieldsIn (payoffAt natOf offsetOf left (now (now nodes)) at) ⌝ }
-    ensures { λ r. ⌜ worthAnswer r ≡ worthIn (tableOf (span .h) (span .f) (now (factors .entry)) (now (now (bounds .entry))) (now (now (values .entry)))) (pair .p) (pair .q) (natOf (start .0))
+    ensures { λ r. ⌜ worthAnswer r ≡ worthIn (tableOf (h .0) (f .0) (now (factors .entry)) (now (now (bounds .entry))) (now (now (values .entry)))) (pair .p) (pair .q) (natOf (start .0))
         (payoffAt natOf offsetOf left (now (now (nodes .entry))) at) (natOf (waited .0)) ⌝ }
 {
     let letter = rows::letter(nodes, at);
     match letter {
         PayoffLetter::Nil => Worth::Value(Millionths(0)),
-        PayoffLetter::Uncut => leaf::leaf_worth(nodes, factors, span, waited, Month(0), pair, at),
-        PayoffLetter::Cut => leaf::leaf_worth(nodes, factors, span, waited, start, pair, at),
+        PayoffLetter::Uncut => leaf::leaf_worth(nodes, factors, f, waited, Month(0), pair, at),
+        PayoffLetter::Cut => leaf::leaf_worth(nodes, factors, f, waited, start, pair, at),
         PayoffLetter::Times => {
             let a = coded::valued(crate::checked_value(
                 nodes,
                 values,
                 bounds,
-                span,
+                h,
+                f,
                 waited,
                 at + 1,
                 512,
@@ -61,7 +62,8 @@ pub fn payoff_worth(
                 factors,
                 values,
                 bounds,
-                span,
+                h,
+                f,
                 waited,
                 start,
                 pair,
@@ -76,7 +78,8 @@ pub fn payoff_worth(
                 factors,
                 values,
                 bounds,
-                span,
+                h,
+                f,
                 waited,
                 start,
                 pair,
@@ -88,7 +91,8 @@ pub fn payoff_worth(
                 factors,
                 values,
                 bounds,
-                span,
+                h,
+                f,
                 waited,
                 start,
                 pair,
@@ -99,14 +103,15 @@ pub fn payoff_worth(
         }
         PayoffLetter::Await => {
             let d = pays::rows::delay(nodes, at);
-            let w = wait::wait_for(nodes, values, bounds, span, waited, d, at + 1, 512);
+            let w = wait::wait_for(nodes, values, bounds, h, f, waited, d, at + 1, 512);
             match w {
                 Wait::Held(k) => payoff_worth(
                     nodes,
                     factors,
                     values,
                     bounds,
-                    span,
+                    h,
+                    f,
                     k,
                     start,
                     pair,
@@ -118,7 +123,8 @@ pub fn payoff_worth(
                     factors,
                     values,
                     bounds,
-                    span,
+                    h,
+                    f,
                     last,
                     start,
                     pair,

@@ -57,22 +57,31 @@ pub fn number(nodes: &&[i64], at: usize) -> Valued
     Valued::Value(amounts::rows::number(nodes, at))
 }
 
+// The months of the table, which the walk hands on as two numbers: a struct of two would go through memory.
+pub fn span_of(h: Month, f: Month) -> Span
+    ensures { λ r. ⌜ (r .h ≡ h .0) × (r .f ≡ f .0) ⌝ }
+{
+    Span { h: h.0, f: f.0 }
+}
+
 // The value of an `O`, with some months waited, or 11.
 pub fn reading(
     nodes: &&[i64],
     values: &&[i64],
     bounds: &&[i64],
-    span: Span,
+    h: Month,
+    f: Month,
     waited: Month,
     at: usize,
 ) -> Valued
-    requires { ⌜ RowIn (now (now nodes)) at × Readable (span .h) (span .f) (now (now bounds)) (now (now values)) × Waited (waited .0) × Near (slotAt (now (now nodes)) at 2) ⌝ }
+    requires { ⌜ RowIn (now (now nodes)) at × Readable (h .0) (f .0) (now (now bounds)) (now (now values)) × Waited (waited .0) × Near (slotAt (now (now nodes)) at 2) ⌝ }
     ensures { λ r. ⌜ valuedAnswer r ≡ cond
-        (readable (readTable (span .h) (span .f) (now (now (bounds .entry))) (now (now (values .entry)))) (natOf (slotAt (now (now (nodes .entry))) at 1)) (pos (natOf (waited .0)) +ℤ slotAt (now (now (nodes .entry))) at 2))
-        (inRange maxAmount (valueAt (readTable (span .h) (span .f) (now (now (bounds .entry))) (now (now (values .entry)))) (natOf (slotAt (now (now (nodes .entry))) at 1)) (pos (natOf (waited .0)) +ℤ slotAt (now (now (nodes .entry))) at 2)))
+        (readable (readTable (h .0) (f .0) (now (now (bounds .entry))) (now (now (values .entry)))) (natOf (slotAt (now (now (nodes .entry))) at 1)) (pos (natOf (waited .0)) +ℤ slotAt (now (now (nodes .entry))) at 2))
+        (inRange maxAmount (valueAt (readTable (h .0) (f .0) (now (now (bounds .entry))) (now (now (values .entry)))) (natOf (slotAt (now (now (nodes .entry))) at 1)) (pos (natOf (waited .0)) +ℤ slotAt (now (now (nodes .entry))) at 2)))
         (refused 11) ⌝ }
 {
     let month = integers::later(waited, month_at(nodes, at, 2));
+    let span = span_of(h, f);
     let found = lookup::labelled(*values, *bounds, span, label(nodes, at), month);
     match found {
         Found::Value(p) => Valued::Value(p),

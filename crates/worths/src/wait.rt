@@ -12,7 +12,6 @@ use crate::answers;
 use crate::answers::Tested;
 use crate::fours;
 use integers::Month;
-use tables::Span;
 use text::Refusal;
 
 pub enum Wait {
@@ -26,20 +25,21 @@ fn wait_singly(
     nodes: &&[i64],
     values: &&[i64],
     bounds: &&[i64],
-    span: Span,
+    h: Month,
+    f: Month,
     first: Month,
     d: Month,
     at: usize,
     left: usize,
 ) -> Wait
-    requires { ⌜ Readable (span .h) (span .f) (now (now bounds)) (now (now values)) × WaitsIn (first .0) (d .0) × TestStands left (now (now nodes)) at × fieldsOfTest Near (testAt offsetOf left (now (now nodes)) at) ⌝ }
-    ensures is { λ r. ⌜ waitAnswer r ≡ checkedTried (testIn (span .h) (span .f) (now (now (bounds .entry))) (now (now (values .entry))) (testAt offsetOf left (now (now (nodes .entry))) at)) (natOf (d .0)) (natOf (first .0)) ⌝ }
+    requires { ⌜ Readable (h .0) (f .0) (now (now bounds)) (now (now values)) × WaitsIn (first .0) (d .0) × TestStands left (now (now nodes)) at × fieldsOfTest Near (testAt offsetOf left (now (now nodes)) at) ⌝ }
+    ensures is { λ r. ⌜ waitAnswer r ≡ checkedTried (testIn (h .0) (f .0) (now (now (bounds .entry))) (now (now (values .entry))) (testAt offsetOf left (now (now (nodes .entry))) at)) (natOf (d .0)) (natOf (first .0)) ⌝ }
     ensures known { λ r. ⌜ WaitKnown r ⌝ }
 {
     let last = integers::later(first, d);
     let mut month = first;
     loop {
-        let t = crate::checked_holds(nodes, values, bounds, span, month, at, left);
+        let t = crate::checked_holds(nodes, values, bounds, h, f, month, at, left);
         match t {
             Tested::Holds => {
                 break Wait::Held(month);
@@ -63,14 +63,15 @@ pub fn wait_for(
     nodes: &&[i64],
     values: &&[i64],
     bounds: &&[i64],
-    span: Span,
+    h: Month,
+    f: Month,
     first: Month,
     d: Month,
     at: usize,
     left: usize,
 ) -> Wait
-    requires { ⌜ Readable (span .h) (span .f) (now (now bounds)) (now (now values)) × WaitsIn (first .0) (d .0) × TestStands left (now (now nodes)) at × fieldsOfTest Near (testAt offsetOf left (now (now nodes)) at) ⌝ }
-    ensures is { λ r. ⌜ waitAnswer r ≡ checkedTried (testIn (span .h) (span .f) (now (now (bounds .entry))) (now (now (values .entry))) (testAt offsetOf left (now (now (nodes .entry))) at)) (natOf (d .0)) (natOf (first .0)) ⌝ }
+    requires { ⌜ Readable (h .0) (f .0) (now (now bounds)) (now (now values)) × WaitsIn (first .0) (d .0) × TestStands left (now (now nodes)) at × fieldsOfTest Near (testAt offsetOf left (now (now nodes)) at) ⌝ }
+    ensures is { λ r. ⌜ waitAnswer r ≡ checkedTried (testIn (h .0) (f .0) (now (now (bounds .entry))) (now (now (values .entry))) (testAt offsetOf left (now (now (nodes .entry))) at)) (natOf (d .0)) (natOf (first .0)) ⌝ }
     ensures known { λ r. ⌜ WaitKnown r ⌝ }
 {
     let last = integers::later(first, d);
@@ -82,14 +83,15 @@ pub fn wait_for(
                 nodes,
                 values,
                 bounds,
-                span,
+                h,
+                f,
                 month,
                 amounts::wait::between(month, last),
                 at,
                 left,
             );
         }
-        let t = fours::tests(nodes, values, bounds, span, month, at, left);
+        let t = fours::tests(nodes, values, bounds, h, f, month, at, left);
         if t.all {
             let k = amounts::wait::first_held(t.held);
             if k.0 < 4 {
@@ -101,7 +103,8 @@ pub fn wait_for(
                 nodes,
                 values,
                 bounds,
-                span,
+                h,
+                f,
                 month,
                 amounts::wait::between(month, last),
                 at,

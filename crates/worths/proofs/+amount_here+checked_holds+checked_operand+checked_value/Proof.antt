@@ -51,16 +51,16 @@ use Rattle.worths.proofs.rows.over.Reads as over-reads
 use Rattle.worths.proofs.rows.reading.Reads as reading-reads
 
 abbrev μ-amount-here : Measures 6 amount-here-kinds.ps ℕ
-μ-amount-here κs a = 3 * a .1 .1 .1 .1 .1 .1 .0
+μ-amount-here κs a = 3 * a .1 .1 .1 .1 .1 .1 .1 .0
 
 abbrev μ-checked-holds : Measures 6 checked-holds-kinds.ps ℕ
-μ-checked-holds κs a = 3 * a .1 .1 .1 .1 .1 .1 .0
+μ-checked-holds κs a = 3 * a .1 .1 .1 .1 .1 .1 .1 .0
 
 abbrev μ-checked-operand : Measures 6 checked-operand-kinds.ps ℕ
-μ-checked-operand κs a = 3 * a .1 .1 .1 .1 .1 .1 .0 + 2
+μ-checked-operand κs a = 3 * a .1 .1 .1 .1 .1 .1 .1 .0 + 2
 
 abbrev μ-checked-value : Measures 6 checked-value-kinds.ps ℕ
-μ-checked-value κs a = 3 * a .1 .1 .1 .1 .1 .1 .0 + 1
+μ-checked-value κs a = 3 * a .1 .1 .1 .1 .1 .1 .1 .0 + 1
 
 abbrev amount-here-at : ℕ → In 6 amount-here-kinds.ps
 amount-here-at t = and 6 amount-here-kinds.ps (is 6 amount-here-kinds.ps μ-amount-here t) amount-here.Pre
@@ -170,8 +170,8 @@ amount-here-checked-operand-requires-2 t c κs =
 amount-here-sum-of-requires : (t : ℕ) → amount-here-lts.Need-sum-of-requires (amount-here-calls t) (amount-here-at t) amount-here.Post
 amount-here-sum-of-requires t c κs =
     let s = c .before .before .before .before .before .before .before in (
-      valued-small (s .args .span .h) (s .args .span .f) (s .args .bounds .now .now) (s .args .values .now .now) _ _ (c .before .before .checked-operand .result) (c .before .before .checked-operand .ensures),
-      valued-small (s .args .span .h) (s .args .span .f) (s .args .bounds .now .now) (s .args .values .now .now) _ _ (c .checked-operand2 .result) (c .checked-operand2 .ensures),
+      valued-small (s .args .h .0) (s .args .f .0) (s .args .bounds .now .now) (s .args .values .now .now) _ _ (c .before .before .checked-operand .result) (c .before .before .checked-operand .ensures),
+      valued-small (s .args .h .0) (s .args .f .0) (s .args .bounds .now .now) (s .args .values .now .now) _ _ (c .checked-operand2 .result) (c .checked-operand2 .ensures),
     )
 
 amount-here-add-checked-operand-2 : (t : ℕ) → amount-here-lts.Need-add-checked-operand-2 (amount-here-calls t) (amount-here-at t) amount-here.Post
@@ -211,8 +211,8 @@ amount-here-checked-operand-requires-4 t c κs =
 amount-here-difference-of-requires : (t : ℕ) → amount-here-lts.Need-difference-of-requires (amount-here-calls t) (amount-here-at t) amount-here.Post
 amount-here-difference-of-requires t c κs =
     let s = c .before .before .before .before .before .before .before in (
-      valued-small (s .args .span .h) (s .args .span .f) (s .args .bounds .now .now) (s .args .values .now .now) _ _ (c .before .before .checked-operand3 .result) (c .before .before .checked-operand3 .ensures),
-      valued-small (s .args .span .h) (s .args .span .f) (s .args .bounds .now .now) (s .args .values .now .now) _ _ (c .checked-operand4 .result) (c .checked-operand4 .ensures),
+      valued-small (s .args .h .0) (s .args .f .0) (s .args .bounds .now .now) (s .args .values .now .now) _ _ (c .before .before .checked-operand3 .result) (c .before .before .checked-operand3 .ensures),
+      valued-small (s .args .h .0) (s .args .f .0) (s .args .bounds .now .now) (s .args .values .now .now) _ _ (c .checked-operand4 .result) (c .checked-operand4 .ensures),
     )
 
 amount-here-add-checked-operand-3 : (t : ℕ) → amount-here-lts.Need-add-checked-operand-3 (amount-here-calls t) (amount-here-at t) amount-here.Post
@@ -252,8 +252,8 @@ amount-here-checked-operand-requires-6 t c κs =
 amount-here-product-of-requires : (t : ℕ) → amount-here-lts.Need-product-of-requires (amount-here-calls t) (amount-here-at t) amount-here.Post
 amount-here-product-of-requires t c κs =
     let s = c .before .before .before .before .before .before .before in (
-      valued-small (s .args .span .h) (s .args .span .f) (s .args .bounds .now .now) (s .args .values .now .now) _ _ (c .before .before .checked-operand5 .result) (c .before .before .checked-operand5 .ensures),
-      valued-small (s .args .span .h) (s .args .span .f) (s .args .bounds .now .now) (s .args .values .now .now) _ _ (c .checked-operand6 .result) (c .checked-operand6 .ensures),
+      valued-small (s .args .h .0) (s .args .f .0) (s .args .bounds .now .now) (s .args .values .now .now) _ _ (c .before .before .checked-operand5 .result) (c .before .before .checked-operand5 .ensures),
+      valued-small (s .args .h .0) (s .args .f .0) (s .args .bounds .now .now) (s .args .values .now .now) _ _ (c .checked-operand6 .result) (c .checked-operand6 .ensures),
     )
 
 amount-here-add-checked-operand-4 : (t : ℕ) → amount-here-lts.Need-add-checked-operand-4 (amount-here-calls t) (amount-here-at t) amount-here.Post
@@ -278,7 +278,7 @@ unfolding fieldsOfAmount
 amount-here-over-requires t c κs =
     let s = c .before .before .before .before .before in
     let n = amount-here-here t (c .before .before .before) amount.Quotient (c .before .enum-told6 .given .1) in
-    (n .inside, record { some = n .fields .0; small = n .fields .1 }, valued-small (s .args .span .h) (s .args .span .f) (s .args .bounds .now .now) (s .args .values .now .now) _ _ (c .checked-operand7 .result) (c .checked-operand7 .ensures))
+    (n .inside, record { some = n .fields .0; small = n .fields .1 }, valued-small (s .args .h .0) (s .args .f .0) (s .args .bounds .now .now) (s .args .values .now .now) _ _ (c .checked-operand7 .result) (c .checked-operand7 .ensures))
 
 amount-here-add-checked-holds : (t : ℕ) → amount-here-lts.Need-add-checked-holds (amount-here-calls t) (amount-here-at t) amount-here.Post
 amount-here-add-checked-holds t c =
@@ -756,7 +756,7 @@ checked-value-amount-here-requires t c κs = (omega arith, c .pre .1)
 checked-value-code-requires : (t : ℕ) → checked-value-lts.Need-code-requires (checked-value-calls t) (checked-value-at t) checked-value.Post
 checked-value-code-requires t c κs =
     let a = c .before .args in
-    valued-small (a .span .h) (a .span .f) (a .bounds .now .now) (a .values .now .now) _ _ (c .amount-here .result) (c .amount-here .ensures)
+    valued-small (a .h .0) (a .f .0) (a .bounds .now .now) (a .values .now .now) _ _ (c .amount-here .result) (c .amount-here .ensures)
 
 checked-value-returns : (t : ℕ) → checked-value-lts.Need-returns (checked-value-calls t) (checked-value-at t) checked-value.Post
 checked-value-returns t c =

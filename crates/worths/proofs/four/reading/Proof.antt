@@ -13,21 +13,21 @@ later-requires c κs =
 
 four-places-requires : tie.Need-four-places-requires
 four-places-requires c κs =
-    let s = c .before .before .before .before in
+    let s = c .before .before .before .before .before in
     let a = s .args in
-    (s .pre .1 .kept .span, s .pre .1 .kept .labels, rows.read-small (a .span .h) (a .span .f) (a .bounds .now .now) (a .values .now .now) (s .pre .1) (a .waited .0) _ (first-waited (s .pre .2)) (s .pre .3) (c .before .before .later .ensures) (c .before .before .before .month-at .ensures))
+    rw (c .before .before .span-of .ensures .0, c .before .before .span-of .ensures .1) (s .pre .1 .kept .span, s .pre .1 .kept .labels, rows.read-small (a .h .0) (a .f .0) (a .bounds .now .now) (a .values .now .now) (s .pre .1) (a .waited .0) _ (first-waited (s .pre .2)) (s .pre .3) (c .before .before .before .later .ensures) (c .before .before .before .before .month-at .ensures))
 
 values-at-requires : tie.Need-values-at-requires
 values-at-requires c κs =
-    let s = c .before .before .before .before .before .before .before .before .before in
+    let s = c .before .before .before .before .before .before .before .before .before .before in
     let a = s .args in
-    four-inside (a .span .h) (a .span .f) (a .bounds .now .now) (a .values .now .now) (s .pre .1) (a .waited .0) _ (s .pre .2) (s .pre .3) (c .before .before .before .before .before .label .ensures) (c .before .before .before .before .before .before .before .later .ensures) (c .before .before .before .before .before .before .before .before .month-at .ensures) _ (c .before .before .before .before .four-places .ensures _ (c .before .before .place .given .1))
+    four-inside (a .h .0) (a .f .0) (a .bounds .now .now) (a .values .now .now) (s .pre .1) (a .waited .0) _ (s .pre .2) (s .pre .3) (c .before .before .before .before .before .label .ensures) (c .before .before .before .before .before .before .before .before .later .ensures) (c .before .before .before .before .before .before .before .before .before .month-at .ensures) _ (rw (c .before .before .before .before .before .before .before .span-of .ensures .0, c .before .before .before .before .before .before .before .span-of .ensures .1) at (c .before .before .before .before .four-places .ensures _ (c .before .before .place .given .1)))
 
 returns : tie.Need-returns
 returns c =
-    let s = c .before .before .before .before .before .before .before .before .before .before in
+    let s = c .before .before .before .before .before .before .before .before .before .before .before in
     let a = s .args in
-    λ e k m. c .values-at .ensures e k m ∙ four-read (a .span .h) (a .span .f) (a .bounds .now .now) (a .values .now .now) (s .pre .1) (a .waited .0) _ (s .pre .2) (s .pre .3) (c .before .before .before .before .before .before .label .ensures) (c .before .before .before .before .before .before .before .before .later .ensures) (c .before .before .before .before .before .before .before .before .before .month-at .ensures) _ (c .before .before .before .before .before .four-places .ensures _ (c .before .before .before .place .given .1)) k m
+    λ e k m. c .values-at .ensures e k m ∙ four-read (a .h .0) (a .f .0) (a .bounds .now .now) (a .values .now .now) (s .pre .1) (a .waited .0) _ (s .pre .2) (s .pre .3) (c .before .before .before .before .before .before .label .ensures) (c .before .before .before .before .before .before .before .before .before .later .ensures) (c .before .before .before .before .before .before .before .before .before .before .month-at .ensures) _ (rw (c .before .before .before .before .before .before .before .before .span-of .ensures .0, c .before .before .before .before .before .before .before .before .span-of .ensures .1) at (c .before .before .before .before .before .four-places .ensures _ (c .before .before .before .place .given .1))) k m
 
 returns-2 : tie.Need-returns-2
 returns-2 c = λ e. absurd (c .unsure .ensures e)
@@ -38,6 +38,7 @@ reading-spec =
     (tie.spec
     (λ c κs. search needs)
     later-requires
+    (λ c κs. search needs)
     (λ c κs. search needs)
     four-places-requires
     (λ c. search needs)

@@ -46,13 +46,13 @@ use Rattle.worths.proofs.fours.+amounts+operands+tests.{statement}
 use Rattle.worths.proofs.fours.+amounts+operands+tests.Tie.{close}
 
 abbrev μ-amounts : Measures 6 amounts-kinds.ps ℕ
-μ-amounts κs a = 2 * a .1 .1 .1 .1 .1 .1 .0
+μ-amounts κs a = 2 * a .1 .1 .1 .1 .1 .1 .1 .0
 
 abbrev μ-operands : Measures 6 operands-kinds.ps ℕ
-μ-operands κs a = 2 * a .1 .1 .1 .1 .1 .1 .0 + 1
+μ-operands κs a = 2 * a .1 .1 .1 .1 .1 .1 .1 .0 + 1
 
 abbrev μ-tests : Measures 6 tests-kinds.ps ℕ
-μ-tests κs a = 2 * a .1 .1 .1 .1 .1 .1 .0
+μ-tests κs a = 2 * a .1 .1 .1 .1 .1 .1 .1 .0
 
 abbrev amounts-at : ℕ → In 6 amounts-kinds.ps
 amounts-at t = and 6 amounts-kinds.ps (is 6 amounts-kinds.ps μ-amounts t) amounts.Pre
@@ -131,7 +131,7 @@ amounts-operands-requires-2 t c κs =
     (omega (arith, n .some), rw (c .link .ensures) (c .before .before .before .before .before .before .pre .1 .0, c .before .before .before .before .before .before .pre .1 .1, n .stands .1 .1, n .fields .1))
 
 amounts-sum-of-requires : (t : ℕ) → amounts-lts.Need-sum-of-requires (amounts-calls t) (amounts-at t) amounts.Post
-amounts-sum-of-requires t c κs = (sure-small (c .before .before .before .before .before .before .before .args .span .h) (c .before .before .before .before .before .before .before .args .span .f) (c .before .before .before .before .before .before .before .args .bounds .now .now) (c .before .before .before .before .before .before .before .args .values .now .now) _ _ _ (c .before .before .operands .ensures), sure-small (c .before .before .before .before .before .before .before .args .span .h) (c .before .before .before .before .before .before .before .args .span .f) (c .before .before .before .before .before .before .before .args .bounds .now .now) (c .before .before .before .before .before .before .before .args .values .now .now) _ _ _ (c .operands2 .ensures))
+amounts-sum-of-requires t c κs = (sure-small (c .before .before .before .before .before .before .before .args .h .0) (c .before .before .before .before .before .before .before .args .f .0) (c .before .before .before .before .before .before .before .args .bounds .now .now) (c .before .before .before .before .before .before .before .args .values .now .now) _ _ _ (c .before .before .operands .ensures), sure-small (c .before .before .before .before .before .before .before .args .h .0) (c .before .before .before .before .before .before .before .args .f .0) (c .before .before .before .before .before .before .before .args .bounds .now .now) (c .before .before .before .before .before .before .before .args .values .now .now) _ _ _ (c .operands2 .ensures))
 
 amounts-add-operands-2 : (t : ℕ) → amounts-lts.Need-add-operands-2 (amounts-calls t) (amounts-at t) amounts.Post
 amounts-add-operands-2 t c =
@@ -166,7 +166,7 @@ amounts-operands-requires-4 t c κs =
     (omega (arith, n .some), rw (c .link2 .ensures) (c .before .before .before .before .before .before .pre .1 .0, c .before .before .before .before .before .before .pre .1 .1, n .stands .1 .1, n .fields .1))
 
 amounts-difference-of-requires : (t : ℕ) → amounts-lts.Need-difference-of-requires (amounts-calls t) (amounts-at t) amounts.Post
-amounts-difference-of-requires t c κs = (sure-small (c .before .before .before .before .before .before .before .args .span .h) (c .before .before .before .before .before .before .before .args .span .f) (c .before .before .before .before .before .before .before .args .bounds .now .now) (c .before .before .before .before .before .before .before .args .values .now .now) _ _ _ (c .before .before .operands3 .ensures), sure-small (c .before .before .before .before .before .before .before .args .span .h) (c .before .before .before .before .before .before .before .args .span .f) (c .before .before .before .before .before .before .before .args .bounds .now .now) (c .before .before .before .before .before .before .before .args .values .now .now) _ _ _ (c .operands4 .ensures))
+amounts-difference-of-requires t c κs = (sure-small (c .before .before .before .before .before .before .before .args .h .0) (c .before .before .before .before .before .before .before .args .f .0) (c .before .before .before .before .before .before .before .args .bounds .now .now) (c .before .before .before .before .before .before .before .args .values .now .now) _ _ _ (c .before .before .operands3 .ensures), sure-small (c .before .before .before .before .before .before .before .args .h .0) (c .before .before .before .before .before .before .before .args .f .0) (c .before .before .before .before .before .before .before .args .bounds .now .now) (c .before .before .before .before .before .before .before .args .values .now .now) _ _ _ (c .operands4 .ensures))
 
 amounts-add-operands-3 : (t : ℕ) → amounts-lts.Need-add-operands-3 (amounts-calls t) (amounts-at t) amounts.Post
 amounts-add-operands-3 t c =
@@ -201,7 +201,7 @@ amounts-operands-requires-6 t c κs =
     (omega (arith, n .some), rw (c .link3 .ensures) (c .before .before .before .before .before .before .pre .1 .0, c .before .before .before .before .before .before .pre .1 .1, n .stands .1 .1, n .fields .1))
 
 amounts-product-of-requires : (t : ℕ) → amounts-lts.Need-product-of-requires (amounts-calls t) (amounts-at t) amounts.Post
-amounts-product-of-requires t c κs = (sure-small (c .before .before .before .before .before .before .before .args .span .h) (c .before .before .before .before .before .before .before .args .span .f) (c .before .before .before .before .before .before .before .args .bounds .now .now) (c .before .before .before .before .before .before .before .args .values .now .now) _ _ _ (c .before .before .operands5 .ensures), sure-small (c .before .before .before .before .before .before .before .args .span .h) (c .before .before .before .before .before .before .before .args .span .f) (c .before .before .before .before .before .before .before .args .bounds .now .now) (c .before .before .before .before .before .before .before .args .values .now .now) _ _ _ (c .operands6 .ensures))
+amounts-product-of-requires t c κs = (sure-small (c .before .before .before .before .before .before .before .args .h .0) (c .before .before .before .before .before .before .before .args .f .0) (c .before .before .before .before .before .before .before .args .bounds .now .now) (c .before .before .before .before .before .before .before .args .values .now .now) _ _ _ (c .before .before .operands5 .ensures), sure-small (c .before .before .before .before .before .before .before .args .h .0) (c .before .before .before .before .before .before .before .args .f .0) (c .before .before .before .before .before .before .before .args .bounds .now .now) (c .before .before .before .before .before .before .before .args .values .now .now) _ _ _ (c .operands6 .ensures))
 
 amounts-add-operands-4 : (t : ℕ) → amounts-lts.Need-add-operands-4 (amounts-calls t) (amounts-at t) amounts.Post
 amounts-add-operands-4 t c =
@@ -223,7 +223,7 @@ amounts-over-requires : (t : ℕ) → amounts-lts.Need-over-requires (amounts-ca
 unfolding fieldsOfAmount
 amounts-over-requires t c κs =
     let n = amounts-here t (c .before .before .before) amount.Quotient (c .before .enum-told6 .given .1) in
-    (n .inside, record { some = n .fields .0; small = n .fields .1 }, sure-small (c .before .before .before .before .before .args .span .h) (c .before .before .before .before .before .args .span .f) (c .before .before .before .before .before .args .bounds .now .now) (c .before .before .before .before .before .args .values .now .now) _ _ _ (c .operands7 .ensures))
+    (n .inside, record { some = n .fields .0; small = n .fields .1 }, sure-small (c .before .before .before .before .before .args .h .0) (c .before .before .before .before .before .args .f .0) (c .before .before .before .before .before .args .bounds .now .now) (c .before .before .before .before .before .args .values .now .now) _ _ _ (c .operands7 .ensures))
 
 amounts-add-tests : (t : ℕ) → amounts-lts.Need-add-tests (amounts-calls t) (amounts-at t) amounts.Post
 amounts-add-tests t c =

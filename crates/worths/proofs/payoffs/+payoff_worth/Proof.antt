@@ -35,7 +35,7 @@ use Rattle.worths.proofs.rows.letter.Reads as letter-reads
 use Rattle.worths.proofs.wait.wait_for.Reads as wait-for-reads
 
 abbrev μ-payoff-worth : Measures 7 payoff-worth-kinds.ps ℕ
-μ-payoff-worth κs a = a .1 .1 .1 .1 .1 .1 .1 .1 .1 .0
+μ-payoff-worth κs a = a .1 .1 .1 .1 .1 .1 .1 .1 .1 .1 .0
 
 abbrev payoff-worth-at : ℕ → In 7 payoff-worth-kinds.ps
 payoff-worth-at t = and 7 payoff-worth-kinds.ps (is 7 payoff-worth-kinds.ps μ-payoff-worth t) payoff-worth.Pre
@@ -111,8 +111,8 @@ payoff-worth-scaled-requires t c κs =
     let a = s .args in
     let f : SFits w64 (c .before .before .before .checked-value .result) = search needs in
     let n = payoff-worth-here t (c .before .before .before .before .before .before) letter.Times (c .before .before .before .before .enum-told4 .given .1) in (
-      valued-small (a .span .h) (a .span .f) (a .bounds .now .now) (a .values .now .now) _ _ (c .before .before .valued .result) (c .before .before .valued .ensures ∙ ap valuedIn (toZ-ofZ f) ∙ c .before .before .before .checked-value .ensures),
-      arms.part-small (a .span .h) (a .span .f) (a .factors .now) (a .bounds .now .now) (a .values .now .now) (a .pair .p) (a .pair .q) _ _ _ (c .payoff-worth .result) (c .payoff-worth .ensures),
+      valued-small (a .h .0) (a .f .0) (a .bounds .now .now) (a .values .now .now) _ _ (c .before .before .valued .result) (c .before .before .valued .ensures ∙ ap valuedIn (toZ-ofZ f) ∙ c .before .before .before .checked-value .ensures),
+      arms.part-small (a .h .0) (a .f .0) (a .factors .now) (a .bounds .now .now) (a .values .now .now) (a .pair .p) (a .pair .q) _ _ _ (c .payoff-worth .result) (c .payoff-worth .ensures),
     )
 
 payoff-worth-add-payoff-worth : (t : ℕ) → payoff-worth-lts.Need-add-payoff-worth (payoff-worth-calls t) (payoff-worth-at t) payoff-worth.Post
@@ -156,8 +156,8 @@ payoff-worth-added-requires t c κs =
     let s = c .before .before .before .before .before .before in
     let a = s .args in
     let n = payoff-worth-here t (c .before .before .before .before .before) letter.Plus (c .before .before .before .enum-told5 .given .1) in (
-      arms.part-small (a .span .h) (a .span .f) (a .factors .now) (a .bounds .now .now) (a .values .now .now) (a .pair .p) (a .pair .q) _ _ _ (c .before .before .payoff-worth2 .result) (c .before .before .payoff-worth2 .ensures),
-      arms.part-small (a .span .h) (a .span .f) (a .factors .now) (a .bounds .now .now) (a .values .now .now) (a .pair .p) (a .pair .q) _ _ _ (c .payoff-worth3 .result) (c .payoff-worth3 .ensures),
+      arms.part-small (a .h .0) (a .f .0) (a .factors .now) (a .bounds .now .now) (a .values .now .now) (a .pair .p) (a .pair .q) _ _ _ (c .before .before .payoff-worth2 .result) (c .before .before .payoff-worth2 .ensures),
+      arms.part-small (a .h .0) (a .f .0) (a .factors .now) (a .bounds .now .now) (a .values .now .now) (a .pair .p) (a .pair .q) _ _ _ (c .payoff-worth3 .result) (c .payoff-worth3 .ensures),
     )
 
 payoff-worth-delay-requires : (t : ℕ) → payoff-worth-lts.Need-delay-requires (payoff-worth-calls t) (payoff-worth-at t) payoff-worth.Post
@@ -225,14 +225,14 @@ payoff-worth-returns t c =
     let s = c .before .before .before in
     let a = s .args in
     let n = payoff-worth-here t (c .before .before) letter.Nil (c .enum-told .given .1) in
-    arms.nil-arm (a .span .h) (a .span .f) (a .factors .now) (a .bounds .now .now) (a .values .now .now) (a .pair .p) (a .pair .q) _ _ _ _ _ n
+    arms.nil-arm (a .h .0) (a .f .0) (a .factors .now) (a .bounds .now .now) (a .values .now .now) (a .pair .p) (a .pair .q) _ _ _ _ _ n
 
 payoff-worth-returns-2 : (t : ℕ) → payoff-worth-lts.Need-returns-2 (payoff-worth-calls t) (payoff-worth-at t) payoff-worth.Post
 payoff-worth-returns-2 t c =
     let s = c .before .before .before .before in
     let a = s .args in
     let n = payoff-worth-here t (c .before .before .before) letter.Uncut (c .before .enum-told2 .given .1) in
-    arms.uncut-arm (a .span .h) (a .span .f) (a .factors .now) (a .bounds .now .now) (a .values .now .now) (a .pair .p) (a .pair .q) _ _ _ _ _ n (c .leaf-worth .ensures)
+    arms.uncut-arm (a .h .0) (a .f .0) (a .factors .now) (a .bounds .now .now) (a .values .now .now) (a .pair .p) (a .pair .q) _ _ _ _ _ n (c .leaf-worth .ensures)
 
 payoff-worth-returns-3 : (t : ℕ) → payoff-worth-lts.Need-returns-3 (payoff-worth-calls t) (payoff-worth-at t) payoff-worth.Post
 payoff-worth-returns-3 t c =
@@ -240,7 +240,7 @@ payoff-worth-returns-3 t c =
     let a = s .args in
     let h = s .pre .1 in
     let n = payoff-worth-here t (c .before .before .before) letter.Cut (c .before .enum-told3 .given .1) in
-    arms.cut-arm (a .span .h) (a .span .f) (a .factors .now) (a .bounds .now .now) (a .values .now .now) (a .pair .p) (a .pair .q) _ _ _ _ _ n (month-is (a .start .0) (h .3)) (c .leaf-worth2 .ensures)
+    arms.cut-arm (a .h .0) (a .f .0) (a .factors .now) (a .bounds .now .now) (a .values .now .now) (a .pair .p) (a .pair .q) _ _ _ _ _ n (month-is (a .start .0) (h .3)) (c .leaf-worth2 .ensures)
 
 payoff-worth-returns-4 : (t : ℕ) → payoff-worth-lts.Need-returns-4 (payoff-worth-calls t) (payoff-worth-at t) payoff-worth.Post
 payoff-worth-returns-4 t c =
@@ -248,14 +248,14 @@ payoff-worth-returns-4 t c =
     let a = s .args in
     let f : SFits w64 (c .before .before .before .before .checked-value .result) = search needs in
     let n = payoff-worth-here t (c .before .before .before .before .before .before .before) letter.Times (c .before .before .before .before .before .enum-told4 .given .1) in
-    arms.times-arm (a .span .h) (a .span .f) (a .factors .now) (a .bounds .now .now) (a .values .now .now) (a .pair .p) (a .pair .q) _ _ _ _ _ n (c .before .before .link .ensures) (c .before .before .before .valued .ensures ∙ ap valuedIn (toZ-ofZ f) ∙ c .before .before .before .before .checked-value .ensures) (c .before .payoff-worth .ensures) (c .scaled .ensures)
+    arms.times-arm (a .h .0) (a .f .0) (a .factors .now) (a .bounds .now .now) (a .values .now .now) (a .pair .p) (a .pair .q) _ _ _ _ _ n (c .before .before .link .ensures) (c .before .before .before .valued .ensures ∙ ap valuedIn (toZ-ofZ f) ∙ c .before .before .before .before .checked-value .ensures) (c .before .payoff-worth .ensures) (c .scaled .ensures)
 
 payoff-worth-returns-5 : (t : ℕ) → payoff-worth-lts.Need-returns-5 (payoff-worth-calls t) (payoff-worth-at t) payoff-worth.Post
 payoff-worth-returns-5 t c =
     let s = c .before .before .before .before .before .before .before in
     let a = s .args in
     let n = payoff-worth-here t (c .before .before .before .before .before .before) letter.Plus (c .before .before .before .before .enum-told5 .given .1) in
-    arms.plus-arm (a .span .h) (a .span .f) (a .factors .now) (a .bounds .now .now) (a .values .now .now) (a .pair .p) (a .pair .q) _ _ _ _ _ n (c .before .before .link2 .ensures) (c .before .before .before .payoff-worth2 .ensures) (c .before .payoff-worth3 .ensures) (c .added .ensures)
+    arms.plus-arm (a .h .0) (a .f .0) (a .factors .now) (a .bounds .now .now) (a .values .now .now) (a .pair .p) (a .pair .q) _ _ _ _ _ n (c .before .before .link2 .ensures) (c .before .before .before .payoff-worth2 .ensures) (c .before .payoff-worth3 .ensures) (c .added .ensures)
 
 payoff-worth-returns-6 : (t : ℕ) → payoff-worth-lts.Need-returns-6 (payoff-worth-calls t) (payoff-worth-at t) payoff-worth.Post
 payoff-worth-returns-6 t c =
@@ -263,7 +263,7 @@ payoff-worth-returns-6 t c =
     let a = s .args in
     let n = payoff-worth-here t (c .before .before .before .before .before .before .before .before .before) letter.Await (c .before .before .before .before .before .before .before .enum-told6 .given .1) in
     let e = sym (ap waitAnswer (c .before .before .before .w .given .1)) ∙ c .before .before .before .before .before .wait-for .ensures .0 in
-    arms.held-arm (a .span .h) (a .span .f) (a .factors .now) (a .bounds .now .now) (a .values .now .now) (a .pair .p) (a .pair .q) _ _ _ _ _ n (c .before .before .before .before .before .before .delay .ensures) e (c .before .link3 .ensures) (c .payoff-worth4 .ensures)
+    arms.held-arm (a .h .0) (a .f .0) (a .factors .now) (a .bounds .now .now) (a .values .now .now) (a .pair .p) (a .pair .q) _ _ _ _ _ n (c .before .before .before .before .before .before .delay .ensures) e (c .before .link3 .ensures) (c .payoff-worth4 .ensures)
 
 payoff-worth-returns-7 : (t : ℕ) → payoff-worth-lts.Need-returns-7 (payoff-worth-calls t) (payoff-worth-at t) payoff-worth.Post
 payoff-worth-returns-7 t c =
@@ -271,7 +271,7 @@ payoff-worth-returns-7 t c =
     let a = s .args in
     let n = payoff-worth-here t (c .before .before .before .before .before .before .before .before .before) letter.Await (c .before .before .before .before .before .before .before .enum-told6 .given .1) in
     let e = sym (ap waitAnswer (c .before .before .before .w2 .given .1)) ∙ c .before .before .before .before .before .wait-for .ensures .0 in
-    arms.missed-arm (a .span .h) (a .span .f) (a .factors .now) (a .bounds .now .now) (a .values .now .now) (a .pair .p) (a .pair .q) _ _ _ _ _ n (c .before .before .before .before .before .before .delay .ensures) e (c .before .link4 .ensures) (c .payoff-worth5 .ensures)
+    arms.missed-arm (a .h .0) (a .f .0) (a .factors .now) (a .bounds .now .now) (a .values .now .now) (a .pair .p) (a .pair .q) _ _ _ _ _ n (c .before .before .before .before .before .before .delay .ensures) e (c .before .link4 .ensures) (c .payoff-worth5 .ensures)
 
 payoff-worth-returns-8 : (t : ℕ) → payoff-worth-lts.Need-returns-8 (payoff-worth-calls t) (payoff-worth-at t) payoff-worth.Post
 payoff-worth-returns-8 t c =
@@ -279,14 +279,14 @@ payoff-worth-returns-8 t c =
     let a = s .args in
     let n = payoff-worth-here t (c .before .before .before .before .before .before .before) letter.Await (c .before .before .before .before .before .enum-told6 .given .1) in
     let e = sym (ap waitAnswer (c .before .w3 .given .1)) ∙ c .before .before .before .wait-for .ensures .0 in
-    arms.stopped-arm (a .span .h) (a .span .f) (a .factors .now) (a .bounds .now .now) (a .values .now .now) (a .pair .p) (a .pair .q) _ _ _ _ _ n (c .before .before .before .before .delay .ensures) e
+    arms.stopped-arm (a .h .0) (a .f .0) (a .factors .now) (a .bounds .now .now) (a .values .now .now) (a .pair .p) (a .pair .q) _ _ _ _ _ n (c .before .before .before .before .delay .ensures) e
 
 payoff-worth-returns-9 : (t : ℕ) → payoff-worth-lts.Need-returns-9 (payoff-worth-calls t) (payoff-worth-at t) payoff-worth.Post
 payoff-worth-returns-9 t c =
     let s = c .before .before .before in
     let a = s .args in
     let n = payoff-worth-here t (c .before .before) letter.NoPayoff (c .enum-told7 .given .1) in
-    arms.no-payoff-arm (a .span .h) (a .span .f) (a .factors .now) (a .bounds .now .now) (a .values .now .now) (a .pair .p) (a .pair .q) _ _ _ _ _ n
+    arms.no-payoff-arm (a .h .0) (a .f .0) (a .factors .now) (a .bounds .now .now) (a .values .now .now) (a .pair .p) (a .pair .q) _ _ _ _ _ n
 
 payoff-worth-part : {M : Type 1} (t : ℕ) → payoff-worth-lts.Closed (payoff-worth-calls t) (payoff-worth-at t) payoff-worth.Post M
 payoff-worth-part t =

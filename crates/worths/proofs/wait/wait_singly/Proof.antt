@@ -13,10 +13,10 @@ use Rattle.worths.proofs.wait.wait_singly.Statement.{statement}
 use Rattle.worths.proofs.wait.wait_singly.Tie as tie
 
 abbrev Inv-loop : tie.InvT-loop
-Inv-loop nodes values bounds span at left last month₀ month = waiting.Waiting (testIn (span .h) (span .f) (bounds .now) (values .now) (testAt offsetOf left (nodes .now) at)) (month₀ .0) (last .0) (month .0)
+Inv-loop nodes values bounds h f at left last month₀ month = waiting.Waiting (testIn (h .0) (f .0) (bounds .now) (values .now) (testAt offsetOf left (nodes .now) at)) (month₀ .0) (last .0) (month .0)
 
 abbrev μ-loop : tie.MeasureT-loop
-μ-loop nodes values bounds span at left last month₀ month = natOf (last .0) - natOf (month .0)
+μ-loop nodes values bounds h f at left last month₀ month = natOf (last .0) - natOf (month .0)
 
 later-requires : tie.Need-later-requires Inv-loop μ-loop
 later-requires c κs =
