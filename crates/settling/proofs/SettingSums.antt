@@ -33,6 +33,21 @@ unfolding settingsFrom
 no-settings zero k = refl
 no-settings (suc n) k = no-settings n (suc k)
 
+-- ---- a digit that is zero gives no settings
+one-zero : (n k digits : ℕ) → digits % 32 ≡ 0 → settingsFrom (suc n) k digits ≡ settingsFrom n (suc k) (digits / 32)
+unfolding settingsFrom
+one-zero n k digits e = rw e refl
+
+pub two-zeros : (n k digits : ℕ) → digits % 1_024 ≡ 0 → settingsFrom (suc (suc n)) k digits ≡ settingsFrom n (suc (suc k)) (digits / 1_024)
+two-zeros n k digits e =
+    let d : digits / 32 / 32 ≡ digits / 1_024 = omega arith in
+    one-zero (suc n) k digits (omega arith) ∙ one-zero n (suc k) (digits / 32) (omega arith) ∙ ap (settingsFrom n (suc (suc k))) d
+
+pub four-zeros : (digits : ℕ) → digits % 1_048_576 ≡ 0 → settingsIn digits ≡ settingsFrom 4 4 (digits / 1_048_576)
+four-zeros digits e =
+    let d : digits / 1_024 / 1_024 ≡ digits / 1_048_576 = omega arith in
+    two-zeros 6 0 digits (omega arith) ∙ two-zeros 4 2 (digits / 1_024) (omega arith) ∙ ap (settingsFrom 4 4) d
+
 -- ---- one setting, n times
 all-same : (p : ℕ → Bool) (n k : ℕ) → p k ≡ true → allOf p (replicate n k) ≡ true
 all-same p zero k e = refl
@@ -65,8 +80,8 @@ module _ (days : List ℤ) where
     pub total : settingsSum (settingAt days) (settingsIn digits) ≡ sum + settingsSum (settingAt days) (settingsFrom (8 - k) k rest)
     pub small : sum ≤ 18_600 * k
 
-  pub summing-start : (digits : ℕ) → Summing digits digits 0 0
-  summing-start digits = record { within = omega arith; settled = refl; total = omega arith; small = omega arith }
+  pub summing-start : (digits rest k : ℕ) → k < 8 → settingsIn digits ≡ settingsFrom (8 - k) k rest → Summing digits rest k 0
+  summing-start digits rest k l e = record { within = omega arith; settled = ap (allOf (isSet days)) e; total = omega (arith, ap (settingsSum (settingAt days)) e); small = omega arith }
 
   module _ {digits rest k sum : ℕ} (s : Summing digits rest k sum) (l : k < 8) where
     next-digit : settingsFrom (8 - k) k rest ≡ replicate (rest % 32) k ++ settingsFrom (8 - (k + 1)) (k + 1) (rest / 32)
