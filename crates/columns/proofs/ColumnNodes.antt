@@ -23,7 +23,6 @@ use Rattle.integers.specs.declared.Pence.{Pence}
 use Rattle.language.specs.Limits.{maxMonths, maxNodes}
 use Rattle.language.specs.Payments.Amounts.{holds, value}
 use Rattle.language.specs.Payments.Pays.{Sign, hit, miss, pays, started, tried}
-use Rattle.nodes.proofs.Signed.{natOf-known}
 use Rattle.nodes.specs.Found.{amountAt, offsetOf, planAt, testAt}
 use Rattle.nodes.specs.Letters.{planLetter}
 use Rattle.nodes.specs.Stands.{AmountStands, Forward, PlanStands, TestStands}

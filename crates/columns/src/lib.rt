@@ -1,6 +1,4 @@
 // What a plan pays a pair in each month, filled into a column by one walk over the plan.
-ghost use mathlib.Core.Path.{_≡_};
-ghost use Prim.Native.Nat.{_<_};
 ghost use Rattle.amounts.specs.Fine.{MonthIn};
 ghost use Rattle.amounts.specs.Flat.{flat};
 ghost use Rattle.columns.specs.Column.{Added, PennyFits, Weighed, pennyIn};

@@ -5,7 +5,6 @@ use lib.ListN.{drop, getD, length, length-append, length-drop}
 use mathlib.Core.List.{List, [], _++_, _∷_}
 use mathlib.Core.Path.{_∙_, _≡_, ap, ap₂, refl, subst}
 use native.Mathlib.Omega.{arith}
-use Rattle.language.specs.Limits.{maxNodes}
 use Rattle.language.specs.Text.Classes.{Field, aNumber}
 use Rattle.language.specs.Text.Form.{depthOfAmount, depthOfTest, fieldsOfAmount, fieldsOfTest}
 use Rattle.language.specs.Text.Letters.{AmountLetter, Form, Letter, TestLetter, amountRow, ofAmount, ofTest, rowOf, testRow}

@@ -1,8 +1,7 @@
 // The node table: its rows, its links, and the letters that stand in it.
 ghost use mathlib.Core.Path.{_≡_};
-ghost use Prim.Native.Nat.{ℕ, _+_, _<_};
+ghost use Prim.Native.Nat.{_<_};
 ghost use lib.Dec.{T};
-ghost use lib.IntN.{ℤ};
 ghost use lib.Signed.{nonNeg};
 ghost use Rattle.nodes.specs.Table.{RowIn, slotAt, linkAt};
 ghost use Rattle.nodes.specs.Letters.{planLetter, payoffLetter, amountLetter, testLetter};

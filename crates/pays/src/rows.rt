@@ -1,6 +1,5 @@
 // A row's letter and its delay.
 ghost use mathlib.Core.Path.{_≡_};
-ghost use Prim.Native.Nat.{_<_};
 ghost use lib.IntN.{pos};
 ghost use Rattle.nodes.specs.Letters.{planLetter};
 ghost use Rattle.nodes.specs.Table.{RowIn, natOf, slotAt};

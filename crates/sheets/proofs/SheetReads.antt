@@ -6,17 +6,16 @@ use lib.IntN.{natAbs, pos, ℤ}
 use lib.ListN.{drop, length, length-take, take}
 use mathlib.Core.Bool.{Bool, _&&_, false, true, true≢false}
 use mathlib.Core.List.{List, [], _++_, _∷_}
-use mathlib.Core.Path.{_∙_, _≡_, ap, ap₂, refl, subst, sym}
+use mathlib.Core.Path.{_∙_, _≡_, ap, ap₂, refl, sym}
 use native.Mathlib.Nat.{mul-le-mul}
 use native.Mathlib.Omega.{arith}
 use Rattle.language.proofs.Text.Plans.{plan-trees}
 use Rattle.language.proofs.Truth.{and-e}
 use Rattle.language.specs.Answer.{Answer, _>>=_, _>>_, got, refused, require}
-use Rattle.language.specs.Calls.{Given, acceptPlan, intoBuffer, meetsRules, pairOk}
+use Rattle.language.specs.Calls.{Given, acceptPlan, pairOk}
 use Rattle.language.specs.Limits.{maxSettings, sheetBytes}
 use Rattle.language.specs.Rules.Measures.{lengthOf, magnitudeOf}
-use Rattle.language.specs.Rules.Settings.{allSet, fill}
-use Rattle.language.specs.Rules.Table.{Table, allOf, boundAt, monthOk, settingAt, settingsOk, span, tableOk}
+use Rattle.language.specs.Rules.Table.{Table, boundAt, monthOk, settingsOk, span, tableOk}
 use Rattle.language.specs.Sheet as paper
 use Rattle.language.specs.Sheet.{line, linesOf, monthLine, monthLines, printed, readSheet, sheetAnswer, sheetCall, sheetText}
 use Rattle.language.specs.Text.Fields.{bytes, splitAt}

@@ -24,7 +24,7 @@ use Rattle.language.specs.Rules.Table.{valueAt}
 use Rattle.language.specs.Text.Classes.{aNumber}
 use Rattle.language.specs.Text.Plans.{planTrees}
 use Rattle.language.specs.Text.Reader.{end}
-use Rattle.language.specs.Text.Trees.{both, later, months, scale, within}
+use Rattle.language.specs.Text.Trees.{both, later, scale, within}
 use Rattle.language.specs.Text.Typed.{amountTree, testTree}
 use Rattle.nodes.proofs.Signed.{natOf-known}
 use Rattle.nodes.specs.Found.{offsetOf, testAt}

@@ -15,7 +15,7 @@ use Rattle.language.specs.Text.Classes.{Field}
 use Rattle.language.specs.Text.Letters.{Form, Kind, Letter, amount, kindOf, letterAmong, letterIn, root, rootsThen, rowOf, sameKind, test}
 use Rattle.language.specs.Text.Reader.{Rest, give, node, nodeLetter, readBeside, readFields, readTrees, thenRead}
 use Rattle.text.specs.Fields.{Four, Malformed, classesOfThree}
-use Rattle.text.specs.Letters.{ShapeFor, ShapeIs, Shaped, kindAt, kindNumber, kinds}
+use Rattle.text.specs.Letters.{ShapeFor, ShapeIs, Shaped, kindAt, kindNumber}
 use Rattle.text.specs.Positions.{fieldsFrom, restAt, upTo}
 use Rattle.text.specs.Trees.{Begun, Refuses}
 use Rattle.text.specs.declared.letters.Shape.{Shape}

@@ -3,7 +3,7 @@ use Prim.Native.Nat.{_%_, _*_, _+_, _-_, _/_, _<_, _≤_, ℕ}
 use lib.IntN.{pos, ℤ}
 use lib.ListN.{getD, length, length-set, set}
 use lib.Seq.{length-sets}
-use mathlib.Core.List.{List, [], _∷_}
+use mathlib.Core.List.{List, []}
 use mathlib.Core.Path.{_∙_, _≡_, ap, refl, subst, sym}
 use native.Mathlib.Omega.{arith}
 use Rattle.language.specs.Answer.{refused}
@@ -12,7 +12,6 @@ use Rattle.text.specs.Letters.{kindAt}
 use Rattle.text.specs.Refusals.{numberOf}
 use Rattle.text.specs.Room.{Roomy}
 use Rattle.text.specs.Rows.{RowBegun, RowIs, openRow}
-use Rattle.text.specs.Trees.{Refuses}
 use Rattle.text.specs.Whole.{Grown, wholeText}
 use Rattle.text.specs.declared.Refusal.{Refusal}
 use Rattle.text.specs.declared.whole.Row.{Row}

@@ -9,7 +9,6 @@ use mir.Val.{SFits}
 use native.Mathlib.Omega.{arith}
 use Rattle.amounts.proofs.Nodes.{amountOf, amountStandsBy, testOf, testStandsBy}
 use Rattle.integers.proofs.Locals.{rd}
-use Rattle.language.specs.Limits.{maxNodes}
 use Rattle.language.specs.Text.Form.{fieldsOfAmount, fieldsOfTest}
 use Rattle.nodes.specs.Found.{amountAt, offsetOf, testAt}
 use Rattle.nodes.specs.Letters.{amountLetter, testLetter}

@@ -2,8 +2,6 @@ use borrow.Author.Needs.{needs}
 use mathlib.Core.Path.{_∙_, ap, sym}
 use Rattle.payments.proofs.Admitted.{admitted, refusing}
 use Rattle.payments.proofs.Placed.{fine, found, month-is, pair-is, pays-is, refused-is, rows-in, span-in, today-is}
-use Rattle.payments.proofs.paid.Lts as lts
-use Rattle.payments.proofs.paid.Reads as reads
 use Rattle.payments.proofs.paid.Statement.{statement}
 use Rattle.payments.proofs.paid.Tie as tie
 use Rattle.payments.specs.Answers.{askedOk}

@@ -1,4 +1,4 @@
-use mathlib.Core.Path.{_∙_, refl, sym, subst}
+use mathlib.Core.Path.{refl, subst}
 use Rattle.pays.specs.Until.{UntilIs}
 use borrow.Author.Needs.{needs}
 use native.Mathlib.Omega.{arith}

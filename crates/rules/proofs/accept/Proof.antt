@@ -2,16 +2,13 @@ use borrow.Author.Needs.{needs}
 use lib.IntN.{pos}
 use lib.ListN.{length}
 use mathlib.Core.Bool.{_&&_}
-use mathlib.Core.Path.{_∙_, _≡_, ap, ap₂, refl, subst, sym}
+use mathlib.Core.Path.{_∙_, ap, ap₂, refl, subst, sym}
 use mir.Facts.{toZ-ofZ}
 use mir.Syntax.{w64}
 use mir.Val.{SFits}
-use native.Mathlib.Omega.{arith}
 use Rattle.language.specs.Text.Number.{between}
 use Rattle.rules.proofs.Accepting.{accept-is, bad-settings, in-table, measure-ready, no-caller, no-table, refused-is, unset}
 use Rattle.rules.proofs.Filling.{set-is, standing-rows, standing-skips}
-use Rattle.rules.proofs.accept.Lts as lts
-use Rattle.rules.proofs.accept.Reads as reads
 use Rattle.rules.proofs.accept.Statement.{statement}
 use Rattle.rules.proofs.accept.Tie as tie
 use Rattle.rules.specs.Answers.{givenOf}

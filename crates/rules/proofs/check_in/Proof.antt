@@ -3,8 +3,6 @@ use mathlib.Core.Path.{subst}
 use Rattle.language.specs.Text.Letters.{planForm}
 use Rattle.language.specs.Text.Reader.{readText}
 use Rattle.rules.proofs.Checks.{check-accepts, check-refuses, read-stands}
-use Rattle.rules.proofs.check_in.Lts as lts
-use Rattle.rules.proofs.check_in.Reads as reads
 use Rattle.rules.proofs.check_in.Statement.{statement}
 use Rattle.rules.proofs.check_in.Tie as tie
 use Rattle.rules.specs.Answers.{givenOf}

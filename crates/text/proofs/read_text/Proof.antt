@@ -1,7 +1,7 @@
 use borrow.Author.Needs.{needs}
 use Prim.Native.Nat.{_<_, _≤_, ℕ}
 use lib.ListN.{length}
-use mathlib.Core.Path.{_∙_, refl, subst}
+use mathlib.Core.Path.{refl, subst}
 use native.Mathlib.Omega.{arith}
 use Rattle.text.specs.Letters.{formOf}
 use Rattle.text.specs.Whole.{ReadIs}
@@ -9,10 +9,6 @@ use Rattle.text.proofs.PackedLaws.{longest-small}
 use Rattle.text.proofs.TextLaws.{text-left, text-long, text-read, text-refused}
 use Rattle.text.proofs.read_text.Statement.{statement}
 use Rattle.text.proofs.read_text.Tie as tie
-use Rattle.text.proofs.read_text.Reads as reads
-use Rattle.text.proofs.read_text.Lts as lts
-use Rattle.text.proofs.longest.Reads as longest-reads
-use Rattle.text.proofs.whole.read_rows.Reads as read-rows-reads
 
 longest-requires : tie.Need-longest-requires
 longest-requires c κs = search needs

@@ -1,5 +1,4 @@
 use Prim.Native.Nat.{ℕ}
-use borrow.Author.Needs.{needs}
 use lib.IntN.{_+ℤ_, natAbs, pos, ℤ}
 use lib.ListN.{getD}
 use mathlib.Core.Path.{_∙_, ap, subst, sym}

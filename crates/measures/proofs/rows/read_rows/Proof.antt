@@ -3,7 +3,6 @@ use Rattle.measures.proofs.AmountMagnitudes.{bound-at}
 use Rattle.measures.proofs.Latests as latests
 use Rattle.measures.proofs.Readings as readings
 use Rattle.measures.proofs.RowSums as sums
-use Rattle.measures.proofs.rows.read_rows.Reads as reads
 use Rattle.measures.proofs.rows.read_rows.Statement.{statement}
 use Rattle.measures.proofs.rows.read_rows.Tie as tie
 use Rattle.measures.specs.Magnitudes.{beyond, boundIn}

@@ -8,12 +8,6 @@ use Rattle.text.specs.Trees.{OpenedIs}
 use Rattle.text.proofs.PackedLaws.{shut-number}
 use Rattle.text.proofs.trees.open_general.Statement.{statement}
 use Rattle.text.proofs.trees.open_general.Tie as tie
-use Rattle.text.proofs.trees.open_general.Reads as reads
-use Rattle.text.proofs.trees.open_general.Lts as lts
-use Rattle.text.proofs.number_of.Reads as number-of-reads
-use Rattle.text.proofs.trees.number_for.Reads as number-for-reads
-use Rattle.text.proofs.trees.open_any.Reads as open-any-reads
-use Rattle.text.proofs.trees.put_opened.Reads as put-opened-reads
 
 open-any-requires : tie.Need-open-any-requires
 open-any-requires c κs = search needs

@@ -3,19 +3,13 @@ use lib.IntN.{ℤ}
 use lib.ListN.{length}
 use mathlib.Core.List.{List}
 use mathlib.Core.Logic.{⊎-elim}
-use mathlib.Core.Path.{_∙_, _≡_, ap, refl, subst, sym}
+use mathlib.Core.Path.{_∙_, _≡_, ap, subst, sym}
 use native.Mathlib.Omega.{arith}
 use Rattle.text.specs.Letters.{formOf, kindAt}
 use Rattle.text.specs.Room.{Roomy}
 use Rattle.text.specs.Rows.{QuickIs, RowIs}
 use Rattle.text.proofs.whole.open_row.Statement.{statement}
 use Rattle.text.proofs.whole.open_row.Tie as tie
-use Rattle.text.proofs.whole.open_row.Reads as reads
-use Rattle.text.proofs.whole.open_row.Lts as lts
-use Rattle.text.proofs.quick.quick_row.Reads as quick-row-reads
-use Rattle.text.proofs.quick.stands_at.Reads as stands-at-reads
-use Rattle.text.proofs.trees.open_general.Reads as open-general-reads
-use Rattle.text.proofs.whole.row_of.Reads as row-of-reads
 
 stands-at-requires : tie.Need-stands-at-requires
 stands-at-requires c κs = search needs
