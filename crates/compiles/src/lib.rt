@@ -18,6 +18,28 @@ use nodes::PlanLetter;
 pub mod months;
 pub mod rows;
 
+// The loop takes the slice itself: behind a reference its address would be fetched again after each row that is written.
+fn compile_each(
+    nodes: &[i64],
+    out: &mut [i64],
+    count: usize,
+    from: usize,
+    to: usize,
+    plain: Month,
+    digits: Month,
+) -> usize
+    requires { ⌜ (natAbs (plain .0) ≤ 19_200) × (from ≤ to) × (to ≤ 512) × (5 * to ≤ length (now nodes)) × (5 * (count + (to - from)) ≤ length (now out)) ⌝ }
+    ensures { λ r. ⌜ Copied (compileRow (plain .0) (digits .0)) (now (nodes .entry)) from to (now (out .entry)) (now (out .exit)) count r ⌝ }
+{
+    let mut next = count;
+    let mut at = from;
+    while at < to {
+        next = rows::compile_row(&nodes, out, next, at, plain, digits);
+        at += 1;
+    }
+    next
+}
+
 // The rows of an amount or test, the month so far added to each `O`.
 pub fn compile_rows(
     nodes: &&[i64],
@@ -31,13 +53,7 @@ pub fn compile_rows(
     requires { ⌜ (natAbs (plain .0) ≤ 19_200) × (from ≤ to) × (to ≤ 512) × (5 * to ≤ length (now (now nodes))) × (5 * (count + (to - from)) ≤ length (now out)) ⌝ }
     ensures { λ r. ⌜ Copied (compileRow (plain .0) (digits .0)) (now (now (nodes .entry))) from to (now (out .entry)) (now (out .exit)) count r ⌝ }
 {
-    let mut next = count;
-    let mut at = from;
-    while at < to {
-        next = rows::compile_row(nodes, out, next, at, plain, digits);
-        at += 1;
-    }
-    next
+    compile_each(*nodes, out, count, from, to, plain, digits)
 }
 
 // The payoff of the plan that stands in the rows from node `at` up to node `to`; `plain` and `digits` are the sum of all delays above.

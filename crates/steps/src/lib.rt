@@ -36,6 +36,27 @@ use tables::Span;
 pub mod offsets;
 pub mod rows;
 
+// The loop takes the slice itself: behind a reference its address would be fetched again after each row that is written.
+fn restore_each(
+    nodes: &[i64],
+    span: Span,
+    out: &mut [i64],
+    count: usize,
+    from: usize,
+    to: usize,
+) -> usize
+    requires { ⌜ SpanIn (span .h) (span .f) × (from ≤ to) × (to ≤ 512) × (5 * to ≤ length (now nodes)) × (5 * (count + (to - from)) ≤ length (now out)) ⌝ }
+    ensures { λ r. ⌜ Copied (restoreRow (span .h) (span .f)) (now (nodes .entry)) from to (now (out .entry)) (now (out .exit)) count r ⌝ }
+{
+    let mut next = count;
+    let mut at = from;
+    while at < to {
+        next = rows::restore_row(&nodes, span, out, next, at);
+        at += 1;
+    }
+    next
+}
+
 // The rows from node `from` up to node `to`, each `O` with its offset again.
 pub fn restore_rows(
     nodes: &&[i64],
@@ -48,10 +69,28 @@ pub fn restore_rows(
     requires { ⌜ SpanIn (span .h) (span .f) × (from ≤ to) × (to ≤ 512) × (5 * to ≤ length (now (now nodes))) × (5 * (count + (to - from)) ≤ length (now out)) ⌝ }
     ensures { λ r. ⌜ Copied (restoreRow (span .h) (span .f)) (now (now (nodes .entry))) from to (now (out .entry)) (now (out .exit)) count r ⌝ }
 {
+    restore_each(*nodes, span, out, count, from, to)
+}
+
+// Of these too the loop takes the slices.
+fn step_each(
+    nodes: &[i64],
+    values: &[i64],
+    bounds: &[i64],
+    span: Span,
+    today: Month,
+    out: &mut [i64],
+    count: usize,
+    from: usize,
+    to: usize,
+) -> usize
+    requires { ⌜ SpanIn (span .h) (span .f) × Kept (span .h) (span .f) (now bounds) (now values) × MonthIn (today .0) × (from ≤ to) × (to ≤ 512) × (5 * to ≤ length (now nodes)) × (5 * (count + (to - from)) ≤ length (now out)) ⌝ }
+    ensures { λ r. ⌜ Copied (stepRow (readTable (span .h) (span .f) (now (bounds .entry)) (now (values .entry))) (natOf (today .0))) (now (nodes .entry)) from to (now (out .entry)) (now (out .exit)) count r ⌝ }
+{
     let mut next = count;
     let mut at = from;
     while at < to {
-        next = rows::restore_row(nodes, span, out, next, at);
+        next = rows::step_row(&nodes, &values, &bounds, span, today, out, next, at);
         at += 1;
     }
     next
@@ -72,13 +111,7 @@ pub fn step_rows(
     requires { ⌜ SpanIn (span .h) (span .f) × Kept (span .h) (span .f) (now (now bounds)) (now (now values)) × MonthIn (today .0) × (from ≤ to) × (to ≤ 512) × (5 * to ≤ length (now (now nodes))) × (5 * (count + (to - from)) ≤ length (now out)) ⌝ }
     ensures { λ r. ⌜ Copied (stepRow (readTable (span .h) (span .f) (now (now (bounds .entry))) (now (now (values .entry)))) (natOf (today .0))) (now (now (nodes .entry))) from to (now (out .entry)) (now (out .exit)) count r ⌝ }
 {
-    let mut next = count;
-    let mut at = from;
-    while at < to {
-        next = rows::step_row(nodes, values, bounds, span, today, out, next, at);
-        at += 1;
-    }
-    next
+    step_each(*nodes, *values, *bounds, span, today, out, count, from, to)
 }
 
 // What the pair pays today, and how many rows of the plan for tomorrow are written.
