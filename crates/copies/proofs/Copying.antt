@@ -1,4 +1,4 @@
--- A loop that copies rows, each changed: where it starts, and one row more.
+-- A loop that moves rows down in their table, each changed: where it starts, and one row more.
 use Prim.Native.Nat.{_*_, _+_, _-_, _<_, _≤_, suc, zero, ℕ}
 use lib.IntN.{pos, ℤ}
 use lib.ListN.{drop, getD, length, take}
@@ -7,7 +7,7 @@ use mathlib.Core.Bool.{Bool, cond, false, true}
 use mathlib.Core.List.{List, [], _++_, _∷_, append-assoc, append-nil}
 use mathlib.Core.Path.{_∙_, _≡_, ap, refl, sym}
 use native.Mathlib.Omega.{arith}
-use Rattle.copies.proofs.Appending.{appended-as, appended-none, appended-then}
+use Rattle.copies.proofs.Appending.{appended-as, appended-none, appended-then, kept-from}
 use Rattle.copies.specs.Appended.{Appended}
 use Rattle.copies.specs.Copied.{Copied, changedRows, copyRow}
 use Rattle.integers.specs.Equal.{eqZ}
@@ -27,23 +27,29 @@ module _ (f : List ℤ → List ℤ) where
       ∙ sym (append-assoc (f (take 5 nodes)) (changedRows f n (drop 5 nodes)) (f (take 5 (drop (5 + 5 * n) nodes)))))
 
   module _ (nodes : List ℤ) (from : ℕ) where
-    pub copied-none : (out : List ℤ) (count : ℕ) → Copied f nodes from from out out count count
+    pub copied-none : (count : ℕ) → Copied f nodes nodes from from count count
     unfolding changedRows
-    copied-none out count =
+    copied-none count =
         let z : from - from ≡ 0 = omega arith in
-        record { counted = omega arith; added = rw z (appended-none out count) }
+        record { counted = omega arith; added = rw z (appended-none nodes count) }
 
-    pub copied-next : {at : ℕ} {before mid after : List ℤ} {count n m : ℕ} → from ≤ at → length (f (rowFrom (at * 5) nodes)) ≡ 5
-        → Copied f nodes from at before mid count n → Appended mid after n m (f (rowFrom (at * 5) nodes)) → Copied f nodes from (at + 1) before after count m
-    copied-next {at} l five c a =
+    -- the loop has not written to the row that it comes to
+    pub copied-ahead : {at : ℕ} {mid : List ℤ} {count n : ℕ} → count ≤ from → from ≤ at → Copied f nodes mid from at count n → drop (at * 5) mid ≡ drop (at * 5) nodes
+    copied-ahead {at} b l c = kept-from at (omega (arith, c .counted)) (c .added)
+
+    pub copied-next : {at : ℕ} {mid after : List ℤ} {count n m : ℕ} → count ≤ from → from ≤ at → length (f (rowFrom (at * 5) mid)) ≡ 5
+        → Copied f nodes mid from at count n → Appended mid after n m (f (rowFrom (at * 5) mid)) → Copied f nodes after from (at + 1) count m
+    copied-next {at} {mid} b l five c a =
         let s : at + 1 - from ≡ (at - from) + 1 = omega arith in
         let p : from * 5 + 5 * (at - from) ≡ at * 5 = omega arith in
+        let r : f (rowFrom (at * 5) mid) ≡ f (rowFrom (at * 5) nodes) = ap (λ x. f (take 5 x)) (copied-ahead b l c) in
         record {
           counted = omega (arith, c .counted, a .ends);
           added =
               rw s
               (appended-as
-              (sym (next-row (at - from) (drop (from * 5) nodes) ∙ ap (λ x. changedRows f (at - from) (drop (from * 5) nodes) ++ f (take 5 x)) (drop-drop (5 * (at - from)) (from * 5) nodes ∙ ap (λ k. drop k nodes) p)))
+              (ap (λ x. changedRows f (at - from) (drop (from * 5) nodes) ++ x) r
+              ∙ sym (next-row (at - from) (drop (from * 5) nodes) ∙ ap (λ x. changedRows f (at - from) (drop (from * 5) nodes) ++ f (take 5 x)) (drop-drop (5 * (at - from)) (from * 5) nodes ∙ ap (λ k. drop k nodes) p)))
               (appended-then (c .added) a));
         }
 

@@ -18,6 +18,10 @@ use Rattle.nodes.specs.Table.{linkAt, slotAt}
 pub laid : {nodes : List ℤ} {from to : ℕ} {t : Trees PlanLetter} → Lies nodes from to t → Laid planForm nodes from t
 laid h = record { rest = h .rest; is = h .is; room = omega (arith, h .ends, h .room) }
 
+-- they lie in any table that is alike from there on
+pub lies-kept : {nodes other : List ℤ} {from to : ℕ} {t : Trees PlanLetter} → drop (from * 5) other ≡ drop (from * 5) nodes → Lies nodes from to t → Lies other from to t
+lies-kept e h = record { rest = h .rest; is = e ∙ h .is; ends = h .ends; room = h .room }
+
 -- the table reaches as far as they lie
 pub lying-length : {nodes : List ℤ} {from to : ℕ} {t : Trees PlanLetter} → from < to → Lies nodes from to t → 5 * to ≤ length nodes
 lying-length {nodes} {from} {t = t} s h =

@@ -1,4 +1,4 @@
--- Rows of a plan copied from one table to another, each changed.
+-- Rows of a plan moved down in their table, each changed.
 use Prim.Native.Nat.{_*_, _+_, _-_, suc, zero, ℕ}
 use lib.IntN.{pos, ℤ}
 use lib.ListN.{drop, getD, take}
@@ -20,7 +20,7 @@ copyRow index row =
     cond (eqZ (getD row 0 (pos 0)) (pos (byte "O"))) (index (getD row 1 (pos 0)) (getD row 2 (pos 0)))
     (getD row 0 (pos 0) ∷ getD row 1 (pos 0) ∷ getD row 2 (pos 0) ∷ pos 0 ∷ pos 0 ∷ [])
 
--- the rows from node `from` up to node `to` are appended, each changed by f
-pub record Copied (f : List ℤ → List ℤ) (nodes : List ℤ) (from to : ℕ) (before after : List ℤ) (count next : ℕ) : Type 0 where
+-- the rows from node `from` up to node `to` are appended to the first `count`, each changed by f
+pub record Copied (f : List ℤ → List ℤ) (before after : List ℤ) (from to count next : ℕ) : Type 0 where
   pub counted : next ≡ count + (to - from)
-  pub added : Appended before after count next (changedRows f (to - from) (drop (from * 5) nodes))
+  pub added : Appended before after count next (changedRows f (to - from) (drop (from * 5) before))

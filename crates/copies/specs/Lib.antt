@@ -1,4 +1,4 @@
--- Rows appended to a table, and rows copied from one table to another.
+-- Rows appended to the first rows of a table, and rows moved down in it.
 pub mod Appended
 pub mod Copied
 pub mod Lies

@@ -24,9 +24,9 @@ same-length c = search needs
 
 returns : tie.Need-returns
 returns c =
-    let x = c .before .before .before .before .slot in
-    let y = c .before .before .before .slot2 in
-    let z = c .before .before .slot3 in
+    let x = c .before .before .before .before .before .before .before .slot in
+    let y = c .before .before .before .before .before .slot2 in
+    let z = c .before .before .before .slot3 in
     let f : SFits w64 (x .result) = search needs in
     let g : SFits w64 (y .result) = search needs in
     let h : SFits w64 (z .result) = search needs in
