@@ -1,11 +1,10 @@
 -- Numbers of few digits, and their signs.
-use Prim.Native.Nat.{_*_, _+_, _<_, _^_, _≤_, suc, zero, ℕ}
+use Prim.Native.Nat.{_+_, _<_, _≤_, ℕ}
 use lib.IntN.{negℤ, pos, ℤ}
 use lib.ListN.{drop, getD, length}
 use mathlib.Core.List.{List, _∷_}
 use mathlib.Core.Logic.{inl, inr}
 use mathlib.Core.Path.{_∙_, _≡_, ap, subst, sym}
-use native.Mathlib.Nat.{pow-suc}
 use native.Mathlib.Omega.{arith}
 use Rattle.lines.specs.Figures.{NoMinus, StartIs}
 use Rattle.text.proofs.NumberLaws.{led-natural, minus-some, number-minus, number-plus, plus-some}
@@ -14,21 +13,6 @@ use Rattle.text.specs.Numbers.{NaturalIs, NumberIs, Run}
 use Rattle.text.specs.Positions.{upTo}
 use Rattle.text.specs.declared.numbers.Natural.the-variants.{Plain}
 use Rattle.text.specs.declared.numbers.Number.the-variants.{Is}
-
--- ---- at most eight digits
-
-tens-up : (k n : ℕ) → k ≤ n → 10 ^ k ≤ 10 ^ n
-tens-up zero zero h = omega arith
-tens-up zero (suc n) h = let e = tens-up zero n (omega arith) in rw (pow-suc 10 n) (omega (arith, e))
-tens-up (suc k) zero h = absurd (omega arith)
-tens-up (suc k) (suc n) h = let e = tens-up k n (omega arith) in rw (pow-suc 10 k, pow-suc 10 n) (omega (arith, e))
-
--- k of them are below ten to the k
-pub digits-below : (k v d : ℕ) → v < 10 ^ k → d ≤ 9 → v * 10 + d < 10 ^ (k + 1)
-digits-below k v d h l = let e : k + 1 ≡ suc k = omega arith in rw (e, pow-suc 10 k) (omega (arith, h, l))
-
-pub eight-below : (k v : ℕ) → k ≤ 8 → v < 10 ^ k → v < 100000000
-eight-below k v l h = omega (arith, h, tens-up k 8 l)
 
 -- ---- where the digits start
 

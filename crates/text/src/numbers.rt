@@ -115,6 +115,50 @@ pub fn read_number(text: &[u8], at: usize, stop: u8) -> Number
     positive(read_natural(text, at, stop))
 }
 
+// A row of at most seven digits that a comma ends, looked at without asking for the text's end or the limit; any other is tried again.
+fn seven_digits(text: &[u8], at: usize) -> Natural
+    requires { ⌜ at + 8 ≤ length (now text) ⌝ }
+    ensures { λ r. ⌜ FewAre (upTo 44 (drop at (now (text .entry)))) at r ⌝ }
+{
+    let mut v: u64 = 0;
+    let mut k: usize = 0;
+    while k < 8 {
+        let b = text[at + k];
+        match b {
+            b'0'..=b'9' => {
+                v = v * 10 + (b - 48) as u64;
+            }
+            _ => {
+                if b == b',' {
+                    return Natural::Plain {
+                        value: v,
+                        end: at + k,
+                    };
+                }
+                return Natural::Malformed;
+            }
+        }
+        k += 1;
+    }
+    Natural::Malformed
+}
+
+// A row of digits in front of a comma.
+fn digits_to_comma(text: &[u8], at: usize) -> Natural
+    requires { ⌜ at ≤ length (now text) ⌝ }
+    ensures { λ r. ⌜ DigitsAre (upTo 44 (drop at (now (text .entry)))) at r ⌝ }
+{
+    if 8 <= text.len() - at {
+        match seven_digits(text, at) {
+            Natural::Plain { value, end } => {
+                return Natural::Plain { value, end };
+            }
+            Natural::Malformed => {}
+        }
+    }
+    digits(text, at, b',')
+}
+
 // A number in front of a comma. Most start with a digit above 0, and have no sign and no zero in front.
 pub fn figure_at(text: &[u8], at: usize) -> Number
     requires { ⌜ at ≤ length (now text) ⌝ }
@@ -124,7 +168,7 @@ pub fn figure_at(text: &[u8], at: usize) -> Number
         let c = text[at];
         match c {
             b'1'..=b'9' => {
-                return positive(digits(text, at, b','));
+                return positive(digits_to_comma(text, at));
             }
             _ => {}
         }

@@ -6,6 +6,7 @@ ghost use Rattle.language.specs.Text.Letters.{delay, divisor, figure, month};
 ghost use Rattle.text.specs.Classes.{classOf};
 ghost use Rattle.text.specs.Fields.{MonthIs, MonthTried, PairIs, SlotsAre, SlotsTried, classesOfTwo, classesOfThree};
 use crate::fields::DELAY;
+use crate::fields::DIVISOR;
 use crate::fields::LABEL;
 use crate::fields::MONTH;
 use crate::fields::NONE;
@@ -180,7 +181,7 @@ pub fn quick_figure(text: &[u8], at: usize) -> Slots
     }
 }
 
-// A divisor of up to three digits; any other is tried again.
+// A divisor: most have up to three digits.
 pub fn quick_divisor(text: &[u8], at: usize) -> Slots
     requires { ⌜ at + 4 ≤ length (now text) ⌝ }
     ensures { λ r. ⌜ SlotsTried (divisor ∷ []) (now (text .entry)) at r ⌝ }
@@ -198,7 +199,7 @@ pub fn quick_divisor(text: &[u8], at: usize) -> Slots
                 next: end + 1,
             }
         }
-        Number::Bad => Slots::Unfilled,
+        Number::Bad => read_one(text, at, DIVISOR),
     }
 }
 

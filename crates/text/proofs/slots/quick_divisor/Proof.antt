@@ -4,8 +4,9 @@ use lib.ListN.{drop}
 use mir.Syntax.{w64}
 use mir.ValLaws.{toZ-ofZ}
 use native.Mathlib.Omega.{arith}
+use Rattle.text.specs.Classes.{classOf}
 use Rattle.text.specs.Numbers.{NumberTried}
-use Rattle.text.proofs.FieldLaws.{four-one, taken-at}
+use Rattle.text.proofs.FieldLaws.{are-tried, four-one, taken-at}
 use Rattle.text.proofs.Positions.{up-fits}
 use Rattle.language.specs.Text.Letters.{divisor}
 use Rattle.text.proofs.ClassLaws.{divisor-reads, small-fits, test-high}
@@ -34,6 +35,9 @@ add-t8 c =
 enum-told : tie.Need-enum-told
 enum-told c = search needs
 
+read-one-requires : tie.Need-read-one-requires
+read-one-requires c κs = search needs
+
 returns-2 : tie.Need-returns-2
 returns-2 c =
     let a = c .before .before .before .before .before .before .args in
@@ -44,9 +48,10 @@ returns-2 c =
     (divisor-reads _ v (w .small) (test-high 1 v false (omega arith) (small-fits v (w .small)) (c .if1 .left)) (w .is))) _ (toZ-ofZ w64 v (small-fits v (w .small)))
 
 returns-3 : tie.Need-returns-3
-returns-3 c = search needs
+unfolding classOf
+returns-3 c = are-tried _ _ _ (c .read-one .result) (c .read-one .ensures)
 
 pub quick-divisor-spec : {M : Type 1} → statement M
 quick-divisor-spec =
     tie.close
-    (tie.spec short-number-requires enum-known-a returns add-t8 enum-told returns-2 returns-3)
+    (tie.spec short-number-requires enum-known-a returns add-t8 enum-told read-one-requires returns-2 returns-3)
