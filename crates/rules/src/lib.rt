@@ -127,7 +127,24 @@ fn check_in(
     }
 }
 
-// A text of few bytes has few nodes, and a short table is cleared sooner: 96 rows, 192 or all 512.
+// A text of few bytes has few nodes, and a short table is cleared sooner: 48 rows, 96, 192 or all 512.
+fn small_check(
+    text: &[u8],
+    days: &[i64],
+    span: Span,
+    factors: &[i64],
+    bounds: &[i64],
+    values: &[i64],
+    today: Month,
+) -> Checking
+    requires { ⌜ length (now text) ≤ 96 ⌝ }
+    ensures { λ r. ⌜ (checkingAnswer r ≡ checkCall (now (text .entry))
+        (givenOf (now (days .entry)) (span .h) (span .f) (now (factors .entry)) (now (bounds .entry)) (now (values .entry))) (today .0)) × Natural r ⌝ }
+{
+    let mut nodes = [0i64; 240];
+    check_in(text, &mut nodes, days, span, factors, bounds, values, today)
+}
+
 fn brief_check(
     text: &[u8],
     days: &[i64],
@@ -193,6 +210,9 @@ pub fn check(
         (givenOf (now (days .entry)) h f (now (factors .entry)) (now (bounds .entry)) (now (values .entry))) today) × Natural r ⌝ }
 {
     let span = Span { h: h, f: f };
+    if text.len() <= 96 {
+        return small_check(text, days, span, factors, bounds, values, Month(today));
+    }
     if text.len() <= 192 {
         return brief_check(text, days, span, factors, bounds, values, Month(today));
     }

@@ -3,29 +3,37 @@ use mir.Facts.{toZ-ofZ}
 use Rattle.rules.proofs.check.Statement.{statement}
 use Rattle.rules.proofs.check.Tie as tie
 
-brief-check-requires : tie.Need-brief-check-requires
-brief-check-requires c κs = search needs
+small-check-requires : tie.Need-small-check-requires
+small-check-requires c κs = search needs
 
 returns : tie.Need-returns
 returns c =
     let f = c .before .before .before .fits in
+    rw (toZ-ofZ (f .h), toZ-ofZ (f .f), toZ-ofZ (f .today)) at (c .small-check .ensures)
+
+brief-check-requires : tie.Need-brief-check-requires
+brief-check-requires c κs = search needs
+
+returns-2 : tie.Need-returns-2
+returns-2 c =
+    let f = c .before .before .before .before .fits in
     rw (toZ-ofZ (f .h), toZ-ofZ (f .f), toZ-ofZ (f .today)) at (c .brief-check .ensures)
 
 short-check-requires : tie.Need-short-check-requires
 short-check-requires c κs = search needs
 
-returns-2 : tie.Need-returns-2
-returns-2 c =
-    let f = c .before .before .before .before .fits in
+returns-3 : tie.Need-returns-3
+returns-3 c =
+    let f = c .before .before .before .before .before .fits in
     rw (toZ-ofZ (f .h), toZ-ofZ (f .f), toZ-ofZ (f .today)) at (c .short-check .ensures)
 
 long-check-requires : tie.Need-long-check-requires
 long-check-requires c κs = search needs
 
-returns-3 : tie.Need-returns-3
-returns-3 c =
-    let f = c .before .before .before .before .fits in
+returns-4 : tie.Need-returns-4
+returns-4 c =
+    let f = c .before .before .before .before .before .fits in
     rw (toZ-ofZ (f .h), toZ-ofZ (f .f), toZ-ofZ (f .today)) at (c .long-check .ensures)
 
 pub check-spec : {M : Type 1} → statement M
-check-spec = tie.close (tie.spec brief-check-requires returns short-check-requires returns-2 long-check-requires returns-3)
+check-spec = tie.close (tie.spec small-check-requires returns brief-check-requires returns-2 short-check-requires returns-3 long-check-requires returns-4)
