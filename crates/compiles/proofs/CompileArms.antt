@@ -1,10 +1,10 @@
 -- What each way through a plan's compiling appends: the rows of the payoff.
-use Prim.Native.Nat.{_+_, _-_, ℕ}
+use Prim.Native.Nat.{_+_, _-_, _≤_, ℕ}
 use lib.IntN.{pos, ℤ}
 use mathlib.Core.List.{List, [], _++_, _∷_}
 use mathlib.Core.Path.{_∙_, _≡_, ap, refl, sym}
 use Rattle.compiles.proofs.Compiled.{amount-compiled, test-compiled}
-use Rattle.compiles.proofs.CompileParts.{first-ready, held-ready, later-ready, missed-ready, part, scale-fields, scale-parts, scale-ready, second-ready, transfer-row, within-fields, within-parts, within-row}
+use Rattle.compiles.proofs.CompileParts.{first-next, first-ready, held-next, held-ready, later-ready, missed-next, missed-ready, part, ready-kept, scale-fields, scale-next, scale-ready, scaled-lies, second-next, second-ready, tested-lies, transfer-row, within-fields, within-row}
 use Rattle.compiles.specs.Months.{compileRow, laterDigits, laterPlain}
 use Rattle.compiles.specs.Ready.{Ready}
 use Rattle.copies.proofs.Appending.{appended-as, appended-then, row-of}
@@ -12,7 +12,6 @@ use Rattle.copies.proofs.PlanLetters.{Is}
 use Rattle.copies.proofs.Shapes.{amount-shape, inner-rows, payoff-shape, plain-apart, test-shape}
 use Rattle.copies.specs.Appended.{Appended}
 use Rattle.copies.specs.Copied.{Copied}
-use Rattle.copies.specs.Lies.{Lies}
 use Rattle.copies.specs.Plain.{plainLast, plainRows}
 use Rattle.language.specs.Payoff.Compile.{compilePlan, delayed, mapAmount, mapTest, offset}
 use Rattle.language.specs.Text.Classes.{aDelay, aMonth, aNumber}
@@ -94,54 +93,55 @@ module _ (c : Month) where
 -- ---- the ways through the walk
 
 module _ {plain digits : ℤ} {nodes : List ℤ} {at to left : ℕ} (y : Ready plain digits nodes at to left) where
-  abbrev compiled : {p g : ℤ} {from upto n : ℕ} → Ready p g nodes from upto n → List ℤ
+  abbrev compiled : {p g : ℤ} {table : List ℤ} {from upto n : ℕ} → Ready p g table from upto n → List ℤ
   compiled z = payoffRows (compilePlan (z .month) (z .plan))
 
   -- what was added, for a plan that is known
   known : {x : Plan Delay} {z : Written} {a b : List ℤ} {m n : ℕ} → y .plan ≡ x → compilePlan (y .month) x ≡ z → Appended a b m n (payoffRows z) → Appended a b m n (compiled y)
   known e s p = appended-as (ap payoffRows (sym s) ∙ ap (λ x. payoffRows (compilePlan (y .month) x)) (sym e)) p
 
-  module _ {a b : List ℤ} {m n : ℕ} where
-    pub nothing-arm : Is letter.Nothing (y .plan) → Appended a b m n (bare 90) → Appended a b m n (compiled y)
+  module _ {b : List ℤ} {m n : ℕ} where
+    pub nothing-arm : Is letter.Nothing (y .plan) → Appended nodes b m n (bare 90) → Appended nodes b m n (compiled y)
     nothing-arm i p = known i (compile-nothing (y .month)) (appended-as nil-rows p)
 
-    pub transfer-arm : Is letter.Transfer (y .plan) → Appended a b m n (pos 70 ∷ plain ∷ digits ∷ slotAt nodes at 1 ∷ slotAt nodes at 2 ∷ []) → Appended a b m n (compiled y)
+    pub transfer-arm : Is letter.Transfer (y .plan) → Appended nodes b m n (pos 70 ∷ plain ∷ digits ∷ slotAt nodes at 1 ∷ slotAt nodes at 2 ∷ []) → Appended nodes b m n (compiled y)
     transfer-arm i p =
         known (i .2) (compile-transfer (y .month) (i .0) (i .1))
         (appended-as (row-of refl (y .plainIs) (y .digitsAre) (transfer-row y i .0) (transfer-row y i .1) ∙ leaf-rows (y .month) (i .0) (i .1)) p)
 
     pub later-arm : Is letter.Later (y .plan) → {d p g : ℤ} → d ≡ slotAt nodes at 1 → p ≡ laterPlain plain (delayFrom d) → g ≡ laterDigits digits (delayFrom d)
-        → ((z : Ready p g nodes (at + 1) to (left - 1)) → Appended a b m n (compiled z)) → Appended a b m n (compiled y)
+        → ((z : Ready p g nodes (at + 1) to (left - 1)) → Appended nodes b m n (compiled z)) → Appended nodes b m n (compiled y)
     unfolding later-ready
     later-arm i e ep eg w = known (i .2) (compile-later (y .month) (i .0) (i .1)) (w (later-ready y i e ep eg))
 
-  module _ {a b c d : List ℤ} {k l m n : ℕ} {p : ℕ} (e : p ≡ linkAt nodes at 3) where
-    pub scale-arm : Is letter.Scale (y .plan) → Appended a b k l (bare 83) → Copied (compileRow plain digits) nodes (at + 1) p b c l m
-        → ((z : Ready plain digits nodes p to (left - 1)) → Appended c d m n (compiled z)) → Appended a d k n (compiled y)
-    unfolding scale-ready part
+  -- the first row is written, then the node's children one after another
+  module _ {b c d : List ℤ} {k l m n : ℕ} {p : ℕ} (e : p ≡ linkAt nodes at 3) (h : l ≤ at + 1) where
+    pub scale-arm : Is letter.Scale (y .plan) → Appended nodes b k l (bare 83) → Copied (compileRow plain digits) b c (at + 1) p l m
+        → ((z : Ready plain digits c p to (left - 1)) → Appended c d m n (compiled z)) → Appended nodes d k n (compiled y)
+    unfolding scale-next scale-ready part ready-kept
     scale-arm i u v w =
-        let g : Lies nodes (at + 1) p (amountTree aNumber (i .0) end) = rw e (scale-parts y i .first) in
         known (i .2) (compile-scale (y .month) (i .0) (i .1))
         (appended-as (times-rows (mapAmount (offset (y .month)) (i .0)) (compilePlan (y .month) (i .1)))
-        (appended-then u (appended-then (appended-as (amount-compiled plain digits (y .month) (y .plainIs) (y .digitsAre) (i .0) (scale-fields y i .0) g) (v .added)) (w (scale-ready y i e)))))
+        (appended-then u (appended-then (appended-as (amount-compiled plain digits (y .month) (y .plainIs) (y .digitsAre) (i .0) (scale-fields y i .0) (scaled-lies y i e h u)) (v .added)) (w (scale-next y i e h u v)))))
 
-    pub both-arm : Is letter.Both (y .plan) → Appended a b k l (bare 66) → ((z : Ready plain digits nodes (at + 1) p (left - 1)) → Appended b c l m (compiled z))
-        → ((z : Ready plain digits nodes p to (left - 1)) → Appended c d m n (compiled z)) → Appended a d k n (compiled y)
-    unfolding first-ready second-ready part
-    both-arm i u v w =
+    pub both-arm : Is letter.Both (y .plan) → Appended nodes b k l (bare 66) → m ≤ p → ((z : Ready plain digits b (at + 1) p (left - 1)) → Appended b c l m (compiled z))
+        → ((z : Ready plain digits c p to (left - 1)) → Appended c d m n (compiled z)) → Appended nodes d k n (compiled y)
+    unfolding first-next second-next first-ready second-ready part ready-kept
+    both-arm i u s v w =
+        let x = v (first-next y i e h u) in
         known (i .2) (compile-both (y .month) (i .0) (i .1))
-        (appended-as (plus-rows (compilePlan (y .month) (i .0)) (compilePlan (y .month) (i .1))) (appended-then u (appended-then (v (first-ready y i e)) (w (second-ready y i e)))))
+        (appended-as (plus-rows (compilePlan (y .month) (i .0)) (compilePlan (y .month) (i .1))) (appended-then u (appended-then x (w (second-next y i e h u s x)))))
 
     pub within-arm : {q : ℕ} (eq : q ≡ linkAt nodes at 4) {f : List ℤ} {o : ℕ} → Is letter.Within (y .plan)
-        → Appended a b k l (slotAt nodes at 0 ∷ slotAt nodes at 1 ∷ slotAt nodes at 2 ∷ pos 0 ∷ pos 0 ∷ []) → Copied (compileRow plain digits) nodes (at + 1) p b c l m
-        → ((z : Ready plain digits nodes p q (left - 1)) → Appended c d m n (compiled z))
-        → ((z : Ready plain digits nodes q to (left - 1)) → Appended d f n o (compiled z)) → Appended a f k o (compiled y)
-    unfolding held-ready missed-ready part
-    within-arm eq i u v w z =
-        let g : Lies nodes (at + 1) p (testTree aNumber (i .1) end) = rw e (within-parts y i .first) in
+        → Appended nodes b k l (slotAt nodes at 0 ∷ slotAt nodes at 1 ∷ slotAt nodes at 2 ∷ pos 0 ∷ pos 0 ∷ []) → Copied (compileRow plain digits) b c (at + 1) p l m
+        → n ≤ q → ((z : Ready plain digits c p q (left - 1)) → Appended c d m n (compiled z))
+        → ((z : Ready plain digits d q to (left - 1)) → Appended d f n o (compiled z)) → Appended nodes f k o (compiled y)
+    unfolding held-next missed-next held-ready missed-ready part ready-kept
+    within-arm eq i u v s w z =
         let r = within-row y i in
+        let x = w (held-next y i e eq h u v) in
         known (i .4) (compile-within (y .month) (i .0) (i .1) (i .2) (i .3))
         (appended-as (await-rows (i .0) (mapTest (offset (y .month)) (i .1)) (compilePlan (y .month) (i .2)) (compilePlan (y .month) (i .3)))
         (appended-then (appended-as (row-of (r .0) (r .1) (r .2) refl refl) u)
-        (appended-then (appended-as (test-compiled plain digits (y .month) (y .plainIs) (y .digitsAre) (i .1) (within-fields y i .1) g) (v .added))
-        (appended-then (w (held-ready y i e eq)) (z (missed-ready y i e eq))))))
+        (appended-then (appended-as (test-compiled plain digits (y .month) (y .plainIs) (y .digitsAre) (i .1) (within-fields y i .1) (tested-lies y i e eq h u)) (v .added))
+        (appended-then x (z (missed-next y i e eq h u v s x))))))

@@ -6,11 +6,14 @@ use mathlib.Core.List.{List, [], _∷_}
 use mathlib.Core.Path.{_∙_, _≡_, ap, ap₂, subst, sym}
 use native.Mathlib.Omega.{arith}
 use Rattle.compiles.proofs.Delays.{digits-delayed, later-near, plain-delayed, same-near}
-use Rattle.compiles.specs.Months.{Near, laterDigits, laterPlain}
+use Rattle.compiles.specs.Months.{Near, compileRow, laterDigits, laterPlain}
 use Rattle.compiles.specs.Ready.{Ready}
-use Rattle.copies.proofs.LyingParts.{Three, Two, laid, lying-below, lying-length, three-lie, two-lie}
+use Rattle.copies.proofs.Appending.{kept-from}
+use Rattle.copies.proofs.LyingParts.{Three, Two, laid, lies-kept, lying-below, lying-length, three-lie, two-lie}
 use Rattle.copies.proofs.PlanLetters.{Is, is-so, letter-is, some-depth}
 use Rattle.copies.proofs.Shapes.{amount-shape, is-node, plan-shape, test-shape}
+use Rattle.copies.specs.Appended.{Appended}
+use Rattle.copies.specs.Copied.{Copied}
 use Rattle.copies.specs.Lies.{Lies}
 use Rattle.language.specs.Limits.{maxNodes}
 use Rattle.language.specs.Payoff.Compile.{delayed}
@@ -29,6 +32,10 @@ use Rattle.nodes.specs.Rows.{countOf, delayFrom, delaySlot, fieldSlots, setting
 use Rattle.nodes.specs.Table.{RowIn, linkAt, slotAt}
 use Rattle.nodes.specs.declared.PlanLetter.the-variants as letter
 use Rattle.nodes.specs.declared.PlanLetter.{PlanLetter}
+
+-- it can be compiled after rows before it were written
+unfoldable pub ready-kept : {plain digits : ℤ} {before after : List ℤ} {at to left count next : ℕ} {added : List ℤ} → next ≤ at → Appended before after count next added → Ready plain digits before at to left → Ready plain digits after at to left
+ready-kept {at = at} b u y = record { month = y .month; plainIs = y .plainIs; digitsAre = y .digitsAre; near = y .near; plan = y .plan; lies = lies-kept (kept-from at b u) (y .lies); fields = y .fields; depth = y .depth }
 
 module _ {plain digits : ℤ} {nodes : List ℤ} {at to left : ℕ} (y : Ready plain digits nodes at to left) where
   pub by-letter : {l k : PlanLetter} → l ≡ planLetter (slotAt nodes at 0) → l ≡ k → Is k (y .plan)
@@ -92,6 +99,18 @@ module _ {plain digits : ℤ} {nodes : List ℤ} {at to left : ℕ} (y : Ready p
       unfolding depthOf
       scale-ready = part (i .1) (rw e (scale-parts .second)) (scale-fields .1) (omega (arith, known-depth (scale (i .0) (i .1)) (i .2)))
 
+      -- with the rows before it written
+      module _ {mid : List ℤ} {count l : ℕ} {row : List ℤ} (b : l ≤ at + 1) (u : Appended nodes mid count l row) where
+        pub scaled-lies : Lies mid (at + 1) p (amountTree aNumber (i .0) end)
+        scaled-lies = lies-kept (kept-from (at + 1) b u) (rw e (scale-parts .first))
+
+        module _ {scaled : List ℤ} {m : ℕ} (v : Copied (compileRow plain digits) mid scaled (at + 1) p l m) where
+          pub scaled-before : m ≤ p
+          scaled-before = omega (arith, b, scale-order .0, v .counted)
+
+          unfoldable pub scale-next : Ready plain digits scaled p to (left - 1)
+          scale-next = ready-kept scaled-before (v .added) (ready-kept (omega (arith, b, scale-order .0)) u scale-ready)
+
   module _ (i : Is letter.Later (y .plan)) where
     pub later-fields : delayInForm (i .0) × fieldsOf delayInForm (i .1)
     unfolding fieldsOf
@@ -148,6 +167,14 @@ module _ {plain digits : ℤ} {nodes : List ℤ} {at to left : ℕ} (y : Ready p
       unfolding depthOf
       second-ready = part (i .1) (rw e (both-parts .second)) (both-fields .1) (omega (arith, known-depth (both (i .0) (i .1)) (i .2)))
 
+      -- with the rows before it written
+      module _ {mid : List ℤ} {count l : ℕ} {row : List ℤ} (b : l ≤ at + 1) (u : Appended nodes mid count l row) where
+        unfoldable pub first-next : Ready plain digits mid (at + 1) p (left - 1)
+        first-next = ready-kept b u first-ready
+
+        unfoldable pub second-next : {after : List ℤ} {m : ℕ} {added : List ℤ} → m ≤ p → Appended mid after l m added → Ready plain digits after p to (left - 1)
+        second-next h v = ready-kept h v (ready-kept (omega (arith, b, both-order .0)) u second-ready)
+
   module _ (i : Is letter.Within (y .plan)) where
     pub within-parts : Three nodes at to (testTree aNumber (i .1)) (planTrees (i .2)) (planTrees (i .3) end)
     unfolding planTrees
@@ -176,3 +203,18 @@ module _ {plain digits : ℤ} {nodes : List ℤ} {at to left : ℕ} (y : Ready p
       unfoldable pub missed-ready : Ready plain digits nodes q to (left - 1)
       unfolding depthOf
       missed-ready = part (i .3) (rw eq (within-parts .third)) (within-fields .3) (omega (arith, known-depth (within (i .0) (i .1) (i .2) (i .3)) (i .4)))
+
+      -- with the rows before it written
+      module _ {mid : List ℤ} {count l : ℕ} {row : List ℤ} (b : l ≤ at + 1) (u : Appended nodes mid count l row) where
+        pub tested-lies : Lies mid (at + 1) p (testTree aNumber (i .1) end)
+        tested-lies = lies-kept (kept-from (at + 1) b u) (rw ep (within-parts .first))
+
+        module _ {tested : List ℤ} {m : ℕ} (v : Copied (compileRow plain digits) mid tested (at + 1) p l m) where
+          pub tested-before : m ≤ p
+          tested-before = omega (arith, b, within-order .0, v .counted)
+
+          unfoldable pub held-next : Ready plain digits tested p q (left - 1)
+          held-next = ready-kept tested-before (v .added) (ready-kept (omega (arith, b, within-order .0)) u held-ready)
+
+          unfoldable pub missed-next : {after : List ℤ} {n : ℕ} {added : List ℤ} → n ≤ q → Appended tested after m n added → Ready plain digits after q to (left - 1)
+          missed-next h w = ready-kept h w (ready-kept (omega (arith, tested-before, within-order .1)) (v .added) (ready-kept (omega (arith, b, within-order .0, within-order .1)) u missed-ready))

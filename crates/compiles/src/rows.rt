@@ -1,7 +1,6 @@
 // One row of a compiled payoff.
-ghost use Prim.Native.Nat.{_*_, _+_, _≤_};
+ghost use Prim.Native.Nat.{_*_, _≤_};
 ghost use lib.IntN.{natAbs, pos};
-ghost use lib.ListN.{length};
 ghost use mathlib.Core.List.{[], _∷_};
 ghost use mathlib.Core.Path.{_≡_};
 ghost use Rattle.compiles.specs.Months.{compileRow};
@@ -11,59 +10,55 @@ ghost use Rattle.nodes.specs.Table.{RowIn, slotAt};
 use crate::months;
 use copies::Row;
 use integers::Month;
-use measures::node;
 
 // A delay's number: below zero it is an open setting.
-pub fn delay(nodes: &&[i64], at: usize) -> Month
-    requires { ⌜ RowIn (now (now nodes)) at ⌝ }
-    ensures { λ r. ⌜ r .0 ≡ slotAt (now (now (nodes .entry))) at 1 ⌝ }
+pub fn delay(nodes: &[i64], at: usize) -> Month
+    requires { ⌜ RowIn (now nodes) at ⌝ }
+    ensures { λ r. ⌜ r .0 ≡ slotAt (now (nodes .entry)) at 1 ⌝ }
 {
-    Month(nodes::slot(nodes, at, 1))
+    Month(copies::slot(nodes, at, 1))
+}
+
+// The offset of an `O`.
+fn offset(nodes: &[i64], at: usize) -> Month
+    requires { ⌜ RowIn (now nodes) at ⌝ }
+    ensures { λ r. ⌜ r .0 ≡ slotAt (now (nodes .entry)) at 2 ⌝ }
+{
+    Month(copies::slot(nodes, at, 2))
 }
 
 // A payment in this month, between the parties of the `T` at a node.
-pub fn put_leaf(
-    nodes: &&[i64],
-    out: &mut [i64],
-    count: usize,
-    at: usize,
-    plain: Month,
-    digits: Month,
-) -> usize
-    requires { ⌜ RowIn (now (now nodes)) at × (5 * count + 5 ≤ length (now out)) ⌝ }
-    ensures { λ r. ⌜ Appended (now (out .entry)) (now (out .exit)) count r (pos 70 ∷ plain .0 ∷ digits .0 ∷ slotAt (now (now (nodes .entry))) at 1 ∷ slotAt (now (now (nodes .entry))) at 2 ∷ []) ⌝ }
+pub fn put_leaf(nodes: &mut [i64], count: usize, at: usize, plain: Month, digits: Month) -> usize
+    requires { ⌜ RowIn (now nodes) at × (count ≤ at) ⌝ }
+    ensures { λ r. ⌜ Appended (now (nodes .entry)) (now (nodes .exit)) count r (pos 70 ∷ plain .0 ∷ digits .0 ∷ slotAt (now (nodes .entry)) at 1 ∷ slotAt (now (nodes .entry)) at 2 ∷ []) ⌝ }
 {
+    let payer = copies::slot(nodes, at, 1);
+    let payee = copies::slot(nodes, at, 2);
     copies::put_row(
-        out,
+        nodes,
         count,
         Row {
             letter: 70,
             a: plain.0,
             b: digits.0,
-            c: nodes::slot(nodes, at, 1),
-            d: nodes::slot(nodes, at, 2),
+            c: payer,
+            d: payee,
         },
     )
 }
 
 // An `O` of the label at a node, in this month.
-fn put_index(
-    nodes: &&[i64],
-    out: &mut [i64],
-    count: usize,
-    at: usize,
-    plain: Month,
-    digits: Month,
-) -> usize
-    requires { ⌜ RowIn (now (now nodes)) at × (5 * count + 5 ≤ length (now out)) ⌝ }
-    ensures { λ r. ⌜ Appended (now (out .entry)) (now (out .exit)) count r (pos 79 ∷ slotAt (now (now (nodes .entry))) at 1 ∷ plain .0 ∷ digits .0 ∷ pos 0 ∷ []) ⌝ }
+fn put_index(nodes: &mut [i64], count: usize, at: usize, plain: Month, digits: Month) -> usize
+    requires { ⌜ RowIn (now nodes) at × (count ≤ at) ⌝ }
+    ensures { λ r. ⌜ Appended (now (nodes .entry)) (now (nodes .exit)) count r (pos 79 ∷ slotAt (now (nodes .entry)) at 1 ∷ plain .0 ∷ digits .0 ∷ pos 0 ∷ []) ⌝ }
 {
+    let label = copies::slot(nodes, at, 1);
     copies::put_row(
-        out,
+        nodes,
         count,
         Row {
             letter: 79,
-            a: nodes::slot(nodes, at, 1),
+            a: label,
             b: plain.0,
             c: digits.0,
             d: 0,
@@ -71,20 +66,13 @@ fn put_index(
     )
 }
 
-pub fn compile_row(
-    nodes: &&[i64],
-    out: &mut [i64],
-    count: usize,
-    at: usize,
-    plain: Month,
-    digits: Month,
-) -> usize
-    requires { ⌜ (natAbs (plain .0) ≤ 19_200) × RowIn (now (now nodes)) at × (5 * count + 5 ≤ length (now out)) ⌝ }
-    ensures { λ r. ⌜ Appended (now (out .entry)) (now (out .exit)) count r (compileRow (plain .0) (digits .0) (rowFrom (at * 5) (now (now (nodes .entry))))) ⌝ }
+pub fn compile_row(nodes: &mut [i64], count: usize, at: usize, plain: Month, digits: Month) -> usize
+    requires { ⌜ (natAbs (plain .0) ≤ 19_200) × RowIn (now nodes) at × (count ≤ at) ⌝ }
+    ensures { λ r. ⌜ Appended (now (nodes .entry)) (now (nodes .exit)) count r (compileRow (plain .0) (digits .0) (rowFrom (at * 5) (now (nodes .entry)))) ⌝ }
 {
-    if node::is_index(nodes, at) {
-        let m = months::offset_month(plain, node::offset(nodes, at));
-        return put_index(nodes, out, count, at, m, digits);
+    if copies::is_index(nodes, at) {
+        let m = months::offset_month(plain, offset(nodes, at));
+        return put_index(nodes, count, at, m, digits);
     }
-    copies::copy_row(nodes, out, count, at)
+    copies::copy_row(nodes, count, at)
 }

@@ -1,9 +1,9 @@
+use borrow.Author.Needs.{needs}
 use mathlib.Core.Path.{_∙_, sym}
 use Rattle.compiles.proofs.MonthRows.{index-compiled, other-compiled}
-use Rattle.copies.proofs.Appending.{appended-as}
-use borrow.Author.Needs.{needs}
 use Rattle.compiles.proofs.rows.compile_row.Statement.{statement}
 use Rattle.compiles.proofs.rows.compile_row.Tie as tie
+use Rattle.copies.proofs.Appending.{appended-as}
 
 is-index-requires : tie.Need-is-index-requires
 is-index-requires c κs = search needs
@@ -22,9 +22,9 @@ same-length c = search needs
 
 returns : tie.Need-returns
 returns c =
-    let a = c .before .before .before .before .before .before .before .args in
+    let a = c .before .before .before .before .before .before .before .before .before .args in
     let m = c .before .before .before .offset-month in
-    appended-as (index-compiled (a .plain .0) (a .digits .0) (a .nodes .now .now) (a .at) (sym (c .before .before .before .before .before .before .is-index .ensures) ∙ c .before .before .before .before .before .if1 .taken) (c .before .before .before .before .offset .ensures) (m .ensures)) (c .before .put-index .ensures)
+    appended-as (index-compiled (a .plain .0) (a .digits .0) (a .nodes .now) (a .at) (sym (c .before .before .before .before .before .before .before .is-index .ensures) ∙ c .before .before .before .before .before .before .if1 .taken) (c .before .before .before .before .offset .ensures) (m .ensures)) (c .before .put-index .ensures)
 
 copy-row-requires : tie.Need-copy-row-requires
 copy-row-requires c κs = search needs
@@ -34,8 +34,8 @@ same-length-2 c = search needs
 
 returns-2 : tie.Need-returns-2
 returns-2 c =
-    let a = c .before .before .before .before .before .args in
-    appended-as (other-compiled (a .plain .0) (a .digits .0) (a .nodes .now .now) (a .at) (sym (c .before .before .before .before .is-index .ensures) ∙ c .before .before .before .if1 .left)) (c .before .copy-row .ensures)
+    let a = c .before .before .before .before .before .before .args in
+    appended-as (other-compiled (a .plain .0) (a .digits .0) (a .nodes .now) (a .at) (sym (c .before .before .before .before .is-index .ensures) ∙ c .before .before .before .if1 .left)) (c .before .copy-row .ensures)
 
 pub compile-row-spec : {M : Type 1} → statement M
 compile-row-spec =

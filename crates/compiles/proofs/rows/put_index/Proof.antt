@@ -1,11 +1,11 @@
 use borrow.Author.Needs.{needs}
+use mathlib.Core.Path.{_∙_, refl}
 use mir.Facts.{toZ-ofZ}
 use mir.Syntax.{w64}
 use mir.Val.{SFits}
-use mathlib.Core.Path.{_∙_, refl}
-use Rattle.copies.proofs.Appending.{appended-as, row-of}
 use Rattle.compiles.proofs.rows.put_index.Statement.{statement}
 use Rattle.compiles.proofs.rows.put_index.Tie as tie
+use Rattle.copies.proofs.Appending.{appended-as, row-of}
 
 slot-requires : tie.Need-slot-requires
 slot-requires c κs = search needs
@@ -18,10 +18,10 @@ same-length c = search needs
 
 returns : tie.Need-returns
 returns c =
-    let a = c .before .before .before .before .before .before .args in
+    let a = c .before .before .before .before .before .before .before .args in
     let p : SFits w64 (a .plain .0) = search needs in
     let q : SFits w64 (a .digits .0) = search needs in
-    let x = c .before .before .before .before .slot in
+    let x = c .before .before .before .before .before .slot in
     let f : SFits w64 (x .result) = search needs in
     appended-as (row-of refl (toZ-ofZ f ∙ x .ensures) (toZ-ofZ p) (toZ-ofZ q) refl) (c .before .put-row .ensures)
 
