@@ -1,4 +1,4 @@
--- The call compile: a text that is read is compiled into a second table, and its rows are written.
+-- The call compile: a text that is read is compiled in its table, and the payoff's rows are written.
 use Prim.Native.Nat.{_*_, _≤_, ℕ}
 use lib.IntN.{pos, ℤ}
 use lib.ListN.{drop, length, length-append, take-append-drop}
@@ -65,8 +65,8 @@ module _ (text : List ℕ) where
       depth = was .formed .depth;
     }
 
-    -- m rows were appended to a second table
-    module _ {table out : List ℤ} {m : ℕ} (k : (z : Ready (pos 0) (pos 0) nodes 0 n 32) → Appended table out 0 m (plainRows payoffForm (payoffTrees (compilePlan (z .month) (z .plan)) end))) where
+    -- the first m rows of the table are now the payoff's
+    module _ {out : List ℤ} {m : ℕ} (k : (z : Ready (pos 0) (pos 0) nodes 0 n 32) → Appended nodes out 0 m (plainRows payoffForm (payoffTrees (compilePlan (z .month) (z .plan)) end))) where
       is-written : written m out ≡ printPayoff (compilePlan start (was .plan))
       unfolding printPayoff ready
       is-written = plain-written payoffForm (payoffTrees (compilePlan start (was .plan)) end) (k ready) (payoff-says (compilePlan start (was .plan)) (compiled-formed (was .plan) (was .formed) .fields))

@@ -90,38 +90,37 @@ pub fn cut(text: &[u8], out: &mut [u8]) -> Writing
     }
 }
 
-// The payoff of a plan that was read, compiled into a second table and written from there.
-fn compiled(nodes: &[i64], count: usize, next: &mut [i64], out: &mut [u8]) -> Writing
-    requires { ⌜ PlanRows (now nodes) count × (5 * count ≤ length (now next)) ⌝ }
+// The payoff of a plan that was read, compiled in the plan's table and written from there.
+fn compiled(nodes: &mut [i64], count: usize, out: &mut [u8]) -> Writing
+    requires { ⌜ PlanRows (now nodes) count ⌝ }
     ensures { λ r. ⌜ ((y : PlanRows (now (nodes .entry)) count) → (now (out .exit) ≡ compileCall (y .text) (now (out .entry)) .buffer)
         × (writingAnswer r ≡ compileCall (y .text) (now (out .entry)) .answer)) ⌝ }
 {
-    let n = compiles::compile_plan(&nodes, next, 0, 0, count, Month(0), Month(0), 32);
-    told(writer::write_text(next, n, 53_760, out))
+    let n = compiles::compile_plan(nodes, 0, 0, count, Month(0), Month(0), 32);
+    told(writer::write_text(nodes, n, 53_760, out))
 }
 
-// The call compile with two tables lent, for the text's nodes and for its payoff's.
-fn compile_in(text: &[u8], nodes: &mut [i64], next: &mut [i64], out: &mut [u8]) -> Writing
-    requires { ⌜ Roomy (now text) (now nodes) × (length (now nodes) ≤ length (now next)) ⌝ }
+// The call compile with a table lent, for the text's nodes and then for its payoff's.
+fn compile_in(text: &[u8], nodes: &mut [i64], out: &mut [u8]) -> Writing
+    requires { ⌜ Roomy (now text) (now nodes) ⌝ }
     ensures { λ r. ⌜ (now (out .exit) ≡ compileCall (now (text .entry)) (now (out .entry)) .buffer)
         × (writingAnswer r ≡ compileCall (now (text .entry)) (now (out .entry)) .answer) ⌝ }
 {
     let reading = text::read_plan(text, nodes);
     match reading {
-        Reading::Nodes(count) => compiled(nodes, count, next, out),
+        Reading::Nodes(count) => compiled(nodes, count, out),
         Reading::Refused(refusal) => Writing::Refused(refusal),
     }
 }
 
-// A text of few bytes has few nodes, and short tables are cleared sooner: 96 rows, 192 or all 512.
+// A text of few bytes has few nodes, and a short table is cleared sooner: 96 rows, 192 or all 512.
 fn brief_compile(text: &[u8], out: &mut [u8]) -> Writing
     requires { ⌜ length (now text) ≤ 192 ⌝ }
     ensures { λ r. ⌜ (now (out .exit) ≡ compileCall (now (text .entry)) (now (out .entry)) .buffer)
         × (writingAnswer r ≡ compileCall (now (text .entry)) (now (out .entry)) .answer) ⌝ }
 {
     let mut nodes = [0i64; 480];
-    let mut next = [0i64; 480];
-    compile_in(text, &mut nodes, &mut next, out)
+    compile_in(text, &mut nodes, out)
 }
 
 fn short_compile(text: &[u8], out: &mut [u8]) -> Writing
@@ -130,8 +129,7 @@ fn short_compile(text: &[u8], out: &mut [u8]) -> Writing
         × (writingAnswer r ≡ compileCall (now (text .entry)) (now (out .entry)) .answer) ⌝ }
 {
     let mut nodes = [0i64; 960];
-    let mut next = [0i64; 960];
-    compile_in(text, &mut nodes, &mut next, out)
+    compile_in(text, &mut nodes, out)
 }
 
 fn long_compile(text: &[u8], out: &mut [u8]) -> Writing
@@ -139,8 +137,7 @@ fn long_compile(text: &[u8], out: &mut [u8]) -> Writing
         × (writingAnswer r ≡ compileCall (now (text .entry)) (now (out .entry)) .answer) ⌝ }
 {
     let mut nodes = [0i64; 2560];
-    let mut next = [0i64; 2560];
-    compile_in(text, &mut nodes, &mut next, out)
+    compile_in(text, &mut nodes, out)
 }
 
 // The plan's payoff, written from the first byte of `out` on; a refusal leaves every byte as it was.

@@ -1,13 +1,12 @@
+use borrow.Author.Needs.{needs}
 use mathlib.Core.Path.{subst}
-use native.Mathlib.Omega.{arith}
 use Rattle.language.specs.Text.Letters.{planForm}
 use Rattle.language.specs.Text.Reader.{readText}
-use Rattle.payoff.proofs.CompileTexts.{in-table, kept, refusal-is}
-use Rattle.payoff.specs.Compiling.{PlanRows}
-use Rattle.text.specs.ReadInto.{ReadInto}
-use borrow.Author.Needs.{needs}
+use Rattle.payoff.proofs.CompileTexts.{kept, refusal-is}
 use Rattle.payoff.proofs.compile_in.Statement.{statement}
 use Rattle.payoff.proofs.compile_in.Tie as tie
+use Rattle.payoff.specs.Compiling.{PlanRows}
+use Rattle.text.specs.ReadInto.{ReadInto}
 
 read-plan-requires : tie.Need-read-plan-requires
 read-plan-requires c κs = search needs
@@ -22,9 +21,7 @@ plan c =
     record { text = text; read = subst (ReadInto planForm (readText planForm text) (c .before .before .before .before .read-plan .last .1 .0)) (c .before .reading .given .1) (c .before .before .before .before .read-plan .ensures .0) }
 
 compiled-requires : tie.Need-compiled-requires
-compiled-requires c κs =
-    let y = plan (c .before .before .before) in
-    (y, omega (arith, in-table (y .text) _ _ (y .read), c .before .before .before .before .before .before .before .read-plan .ensures .1, c .before .before .before .before .before .before .before .before .before .before .before .pre .1))
+compiled-requires c κs = plan (c .before .before)
 
 enum-known-reading-2 : tie.Need-enum-known-reading-2
 enum-known-reading-2 c = search needs
@@ -35,14 +32,11 @@ same-length c = search needs
 same-length-2 : tie.Need-same-length-2
 same-length-2 c = search needs
 
+returns : tie.Need-returns
+returns c = c .before .before .before .compiled .ensures (plan (c .before .before .before .before .before .before))
+
 same-length-3 : tie.Need-same-length-3
 same-length-3 c = search needs
-
-returns : tie.Need-returns
-returns c = c .before .before .before .compiled .ensures (plan (c .before .before .before .before .before .before .before))
-
-same-length-4 : tie.Need-same-length-4
-same-length-4 c = search needs
 
 returns-2 : tie.Need-returns-2
 returns-2 c =
@@ -61,7 +55,6 @@ compile-in-spec =
     enum-known-reading-2
     same-length
     same-length-2
-    same-length-3
     returns
-    same-length-4
+    same-length-3
     returns-2)
