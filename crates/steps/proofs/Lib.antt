@@ -5,6 +5,7 @@ pub mod Looked
 pub mod Restored
 pub mod RowSteps
 pub mod StepArms
+pub mod StepKept
 pub mod StepParts
 pub mod StepReady
 pub mod Stepped

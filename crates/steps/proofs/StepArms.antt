@@ -1,5 +1,5 @@
 -- What each way through a plan's step appends: the rows of the stepped plan.
-use Prim.Native.Nat.{_+_, _-_, _<_, suc, zero, ℕ}
+use Prim.Native.Nat.{_+_, _-_, _<_, _≤_, suc, zero, ℕ}
 use lib.IntN.{pos, predℤ, ℤ}
 use lib.Signed.{leZ}
 use mathlib.Core.Bool.{false, true}
@@ -8,6 +8,7 @@ use mathlib.Core.Path.{_∙_, _≡_, ap, ap₂, refl, sym}
 use native.Mathlib.Omega.{arith}
 use Rattle.amounts.specs.Placed.{placeIn, placedAmount}
 use Rattle.copies.proofs.Appending.{appended-as, appended-then, row-of}
+use Rattle.copies.proofs.LyingParts.{lies-kept}
 use Rattle.copies.proofs.PlanLetters.{Is}
 use Rattle.copies.proofs.Shapes.{amount-shape, inner-rows, plain-apart, plan-shape}
 use Rattle.copies.specs.Appended.{Appended}
@@ -29,7 +30,8 @@ use Rattle.language.specs.Text.Typed.{amountTree, testTree}
 use Rattle.nodes.specs.Rows.{delaySlot, fieldSlots, slotsOf}
 use Rattle.nodes.specs.Table.{linkAt, natOf, slotAt}
 use Rattle.nodes.specs.declared.PlanLetter.the-variants as letter
-use Rattle.steps.proofs.StepReady.{first-ready, held-ready, later-below, later-due, later-is, later-ready, later-row, later-waits, missed-ready, scale-is, scale-parts, scale-ready, second-ready, span-in, within-due, within-is, within-parts, within-row, within-waits}
+use Rattle.steps.proofs.StepKept.{behind-kept, below-kept, copied-few, ready-kept}
+use Rattle.steps.proofs.StepReady.{first-ready, held-ready, later-below, later-due, later-is, later-ready, later-row, later-waits, missed-ready, scale-is, scale-order, scale-parts, scale-ready, second-ready, span-in, within-due, within-is, within-parts, within-row, within-waits}
 use Rattle.steps.proofs.Stepped.{amount-stepped, plan-restored, within-restored}
 use Rattle.steps.specs.Offsets.{stepRow}
 use Rattle.steps.specs.Ready.{Ready}
@@ -134,20 +136,20 @@ module _ {h f : ℤ} {bounds values : List ℤ} {r : ℕ} {nodes : List ℤ} {at
   known : {x z : Plan ℕ} {a b : List ℤ} {m n : ℕ} → y .plan ≡ x → step idx r x ≡ z → Appended a b m n (planRows z) → Appended a b m n (stepped (y .plan))
   known e s p = appended-as (ap planRows (sym s) ∙ ap stepped (sym e)) p
 
-  module _ {a b : List ℤ} {m n : ℕ} where
-    pub nothing-arm : Is letter.Nothing (y .plan) → Appended a b m n (bare 90) → Appended a b m n (stepped (y .plan))
+  module _ {b : List ℤ} {m n : ℕ} where
+    pub nothing-arm : Is letter.Nothing (y .plan) → Appended nodes b m n (bare 90) → Appended nodes b m n (stepped (y .plan))
     nothing-arm i p = known i (step-nothing idx r) (appended-as nothing-rows p)
 
-    pub transfer-arm : Is letter.Transfer (y .plan) → Appended a b m n (bare 90) → Appended a b m n (stepped (y .plan))
+    pub transfer-arm : Is letter.Transfer (y .plan) → Appended nodes b m n (bare 90) → Appended nodes b m n (stepped (y .plan))
     transfer-arm i p = known (i .2) (step-transfer idx r (i .0) (i .1)) (appended-as nothing-rows p)
 
     pub due-arm : (i : Is letter.Later (y .plan)) {d : ℤ} (ed : d ≡ pos (natOf (slotAt nodes at 1))) (e : leZ d (pos 0) ≡ true)
-        → ((z : Ready h f bounds values r nodes (at + 1) to (left - 1)) → Appended a b m n (stepped (z .plan))) → Appended a b m n (stepped (y .plan))
+        → ((z : Ready h f bounds values r nodes (at + 1) to (left - 1)) → Appended nodes b m n (stepped (z .plan))) → Appended nodes b m n (stepped (y .plan))
     unfolding later-ready
     due-arm i ed e p = known (i .2) (step-due idx r (i .0) (i .1) (later-due y i ed e)) (p (later-ready y i ed e))
 
     pub later-arm : (i : Is letter.Later (y .plan)) {d : ℤ} (ed : d ≡ pos (natOf (slotAt nodes at 1))) (e : leZ d (pos 0) ≡ false)
-        → Waits h f nodes at to a b m n → Appended a b m n (stepped (y .plan))
+        → Waits h f nodes b at to m n → Appended nodes b m n (stepped (y .plan))
     unfolding fieldsOf
     later-arm i ed e w =
         known (i .2) (step-later idx r (i .0) (i .1) (later-waits y i ed e))
@@ -158,18 +160,18 @@ module _ {h f : ℤ} {bounds values : List ℤ} {r : ℕ} {nodes : List ℤ} {at
         (w .added))
 
     pub held-arm : (i : Is letter.Within (y .plan)) → holds idx (i .1) r ≡ true → {p q : ℕ} → p ≡ linkAt nodes at 3 → q ≡ linkAt nodes at 4
-        → ((z : Ready h f bounds values r nodes p q (left - 1)) → Appended a b m n (stepped (z .plan))) → Appended a b m n (stepped (y .plan))
+        → ((z : Ready h f bounds values r nodes p q (left - 1)) → Appended nodes b m n (stepped (z .plan))) → Appended nodes b m n (stepped (y .plan))
     unfolding held-ready
     held-arm i t ep eq w = known (i .4) (step-held idx r (i .0) (i .1) (i .2) (i .3) t) (w (held-ready y i ep eq))
 
     pub missed-arm : (i : Is letter.Within (y .plan)) → holds idx (i .1) r ≡ false → {p q : ℕ} → p ≡ linkAt nodes at 3 → q ≡ linkAt nodes at 4
         → {d : ℤ} (ed : d ≡ pos (natOf (slotAt nodes at 1))) (e : leZ d (pos 0) ≡ true)
-        → ((z : Ready h f bounds values r nodes q to (left - 1)) → Appended a b m n (stepped (z .plan))) → Appended a b m n (stepped (y .plan))
+        → ((z : Ready h f bounds values r nodes q to (left - 1)) → Appended nodes b m n (stepped (z .plan))) → Appended nodes b m n (stepped (y .plan))
     unfolding missed-ready
     missed-arm i t ep eq ed e w = known (i .4) (step-missed idx r (i .0) (i .1) (i .2) (i .3) t (within-due y i ed e)) (w (missed-ready y i ep eq ed e))
 
     pub within-arm : (i : Is letter.Within (y .plan)) → holds idx (i .1) r ≡ false → {d : ℤ} (ed : d ≡ pos (natOf (slotAt nodes at 1))) (e : leZ d (pos 0) ≡ false)
-        → Waits h f nodes at to a b m n → Appended a b m n (stepped (y .plan))
+        → Waits h f nodes b at to m n → Appended nodes b m n (stepped (y .plan))
     unfolding fieldsOf
     within-arm i t ed e w =
         known (i .4) (step-within idx r (i .0) (i .1) (i .2) (i .3) t (within-waits y i ed e))
@@ -179,19 +181,22 @@ module _ {h f : ℤ} {bounds values : List ℤ} {r : ℕ} {nodes : List ℤ} {at
         ∙ within-rows (i .0 - 1) (i .1) (i .2) (i .3))
         (w .added))
 
-  module _ {a b c d : List ℤ} {k l m n : ℕ} {p : ℕ} (e : p ≡ linkAt nodes at 3) where
-    pub scale-arm : Is letter.Scale (y .plan) → Appended a b k l (bare 83) → Copied (stepRow (readTable h f bounds values) r) nodes (at + 1) p b c l m
-        → ((z : Ready h f bounds values r nodes p to (left - 1)) → Appended c d m n (stepped (z .plan))) → Appended a d k n (stepped (y .plan))
-    unfolding fieldsOf scale-ready
+  module _ {b c d : List ℤ} {k l m n : ℕ} {p : ℕ} (e : p ≡ linkAt nodes at 3) (low : k ≤ at) where
+    pub scale-arm : Is letter.Scale (y .plan) → Appended nodes b k l (bare 83) → Copied (stepRow (readTable h f bounds values) r) b c (at + 1) p l m
+        → ((z : Ready h f bounds values r c p to (left - 1)) → Appended c d m n (stepped (z .plan))) → Appended nodes d k n (stepped (y .plan))
+    unfolding fieldsOf scale-ready ready-kept
     scale-arm i u v w =
         let g : Lies nodes (at + 1) p (amountTree aNumber (placedAmount (placeIn (tableOf h f (y .factors) bounds values)) (i .0)) end) = rw e (scale-parts y i .first) in
         known (i .2) (step-scale idx r (i .0) (i .1))
         (appended-as (scale-rows (stepAmount idx r (i .0)) (step idx r (i .1)))
-        (appended-then u (appended-then (appended-as (amount-stepped h f (span-in y) bounds values r (i .0) (scale-is y i .fields .0) g) (v .added)) (w (scale-ready y i e)))))
+        (appended-then u
+        (appended-then (appended-as (amount-stepped h f (span-in y) bounds values r (i .0) (scale-is y i .fields .0) (lies-kept (below-kept low refl u .is) g)) (v .added))
+        (w (ready-kept (behind-kept low refl u (copied-few (scale-order y i e .0) v) (v .added)) (scale-ready y i e))))))
 
-    pub both-arm : Is letter.Both (y .plan) → Appended a b k l (bare 66) → ((z : Ready h f bounds values r nodes (at + 1) p (left - 1)) → Appended b c l m (stepped (z .plan)))
-        → ((z : Ready h f bounds values r nodes p to (left - 1)) → Appended c d m n (stepped (z .plan))) → Appended a d k n (stepped (y .plan))
-    unfolding first-ready second-ready
-    both-arm i u v w =
+    pub both-arm : Is letter.Both (y .plan) → Appended nodes b k l (bare 66) → m + (at + 1) ≤ l + p → ((z : Ready h f bounds values r b (at + 1) p (left - 1)) → Appended b c l m (stepped (z .plan)))
+        → ((z : Ready h f bounds values r c p to (left - 1)) → Appended c d m n (stepped (z .plan))) → Appended nodes d k n (stepped (y .plan))
+    unfolding first-ready second-ready ready-kept
+    both-arm i u few v w =
+        let first = v (ready-kept (below-kept low refl u) (first-ready y i e)) in
         known (i .2) (step-both idx r (i .0) (i .1))
-        (appended-as (both-rows (step idx r (i .0)) (step idx r (i .1))) (appended-then u (appended-then (v (first-ready y i e)) (w (second-ready y i e)))))
+        (appended-as (both-rows (step idx r (i .0)) (step idx r (i .1))) (appended-then u (appended-then first (w (ready-kept (behind-kept low refl u few first) (second-ready y i e))))))

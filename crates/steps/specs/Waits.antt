@@ -9,8 +9,8 @@ use Rattle.copies.specs.Copied.{changedRows}
 use Rattle.nodes.specs.Table.{natOf, slotAt}
 use Rattle.steps.specs.Offsets.{restoreRow}
 
--- the rows from node `at` up to node `to` are appended
-pub record Waits (h f : ℤ) (nodes : List ℤ) (at to : ℕ) (before after : List ℤ) (count next : ℕ) : Type 0 where
+-- the rows from node `at` up to node `to` are appended to the first `count`
+pub record Waits (h f : ℤ) (before after : List ℤ) (at to count next : ℕ) : Type 0 where
   pub counted : next ≡ count + (to - at)
   pub added : Appended before after count next
-      ((slotAt nodes at 0 ∷ predℤ (pos (natOf (slotAt nodes at 1))) ∷ pos 0 ∷ pos 0 ∷ pos 0 ∷ []) ++ changedRows (restoreRow h f) (to - (at + 1)) (drop ((at + 1) * 5) nodes))
+      ((slotAt before at 0 ∷ predℤ (pos (natOf (slotAt before at 1))) ∷ pos 0 ∷ pos 0 ∷ pos 0 ∷ []) ++ changedRows (restoreRow h f) (to - (at + 1)) (drop ((at + 1) * 5) before))

@@ -1,5 +1,6 @@
-// The month step: the plan for tomorrow, from the table in which index readings are resolved into a second table.
-ghost use Prim.Native.Nat.{_*_, _+_, _-_, _<_, _≤_};
+// The month step: the plan for tomorrow, in the table in which index readings are resolved. It has no more rows than today's up to any
+// node, so each row is written where one stood that has been read.
+ghost use Prim.Native.Nat.{_*_, _+_, _<_, _≤_};
 ghost use lib.IntN.{pos};
 ghost use lib.ListN.{length};
 ghost use mathlib.Core.Path.{_≡_};
@@ -27,70 +28,23 @@ ghost use Rattle.steps.specs.Waits.{Waits};
 ghost use Rattle.tables.specs.Lookup.{Kept, readTable};
 use integers::Month;
 use integers::Pence;
-use measures::node;
 use nodes::PlanLetter;
 use pays::Pair;
-use pays::transfer;
 use tables::Span;
 
 pub mod offsets;
+pub mod reads;
 pub mod rows;
 
-// The loop takes the slice itself: behind a reference its address would be fetched again after each row that is written.
-fn restore_each(
-    nodes: &[i64],
-    span: Span,
-    out: &mut [i64],
-    count: usize,
-    from: usize,
-    to: usize,
-) -> usize
-    requires { ⌜ SpanIn (span .h) (span .f) × (from ≤ to) × (to ≤ 512) × (5 * to ≤ length (now nodes)) × (5 * (count + (to - from)) ≤ length (now out)) ⌝ }
-    ensures { λ r. ⌜ Copied (restoreRow (span .h) (span .f)) (now (nodes .entry)) from to (now (out .entry)) (now (out .exit)) count r ⌝ }
-{
-    let mut next = count;
-    let mut at = from;
-    while at < to {
-        next = rows::restore_row(&nodes, span, out, next, at);
-        at += 1;
-    }
-    next
-}
-
 // The rows from node `from` up to node `to`, each `O` with its offset again.
-pub fn restore_rows(
-    nodes: &&[i64],
-    span: Span,
-    out: &mut [i64],
-    count: usize,
-    from: usize,
-    to: usize,
-) -> usize
-    requires { ⌜ SpanIn (span .h) (span .f) × (from ≤ to) × (to ≤ 512) × (5 * to ≤ length (now (now nodes))) × (5 * (count + (to - from)) ≤ length (now out)) ⌝ }
-    ensures { λ r. ⌜ Copied (restoreRow (span .h) (span .f)) (now (now (nodes .entry))) from to (now (out .entry)) (now (out .exit)) count r ⌝ }
-{
-    restore_each(*nodes, span, out, count, from, to)
-}
-
-// Of these too the loop takes the slices.
-fn step_each(
-    nodes: &[i64],
-    values: &[i64],
-    bounds: &[i64],
-    span: Span,
-    today: Month,
-    out: &mut [i64],
-    count: usize,
-    from: usize,
-    to: usize,
-) -> usize
-    requires { ⌜ SpanIn (span .h) (span .f) × Kept (span .h) (span .f) (now bounds) (now values) × MonthIn (today .0) × (from ≤ to) × (to ≤ 512) × (5 * to ≤ length (now nodes)) × (5 * (count + (to - from)) ≤ length (now out)) ⌝ }
-    ensures { λ r. ⌜ Copied (stepRow (readTable (span .h) (span .f) (now (bounds .entry)) (now (values .entry))) (natOf (today .0))) (now (nodes .entry)) from to (now (out .entry)) (now (out .exit)) count r ⌝ }
+pub fn restore_rows(nodes: &mut [i64], span: Span, count: usize, from: usize, to: usize) -> usize
+    requires { ⌜ SpanIn (span .h) (span .f) × (from ≤ to) × (to ≤ 512) × (5 * to ≤ length (now nodes)) × (count ≤ from) ⌝ }
+    ensures { λ r. ⌜ Copied (restoreRow (span .h) (span .f)) (now (nodes .entry)) (now (nodes .exit)) from to count r ⌝ }
 {
     let mut next = count;
     let mut at = from;
     while at < to {
-        next = rows::step_row(&nodes, &values, &bounds, span, today, out, next, at);
+        next = rows::restore_row(nodes, span, next, at);
         at += 1;
     }
     next
@@ -98,20 +52,25 @@ fn step_each(
 
 // The rows of an amount, stepped.
 pub fn step_rows(
-    nodes: &&[i64],
+    nodes: &mut [i64],
     values: &&[i64],
     bounds: &&[i64],
     span: Span,
     today: Month,
-    out: &mut [i64],
     count: usize,
     from: usize,
     to: usize,
 ) -> usize
-    requires { ⌜ SpanIn (span .h) (span .f) × Kept (span .h) (span .f) (now (now bounds)) (now (now values)) × MonthIn (today .0) × (from ≤ to) × (to ≤ 512) × (5 * to ≤ length (now (now nodes))) × (5 * (count + (to - from)) ≤ length (now out)) ⌝ }
-    ensures { λ r. ⌜ Copied (stepRow (readTable (span .h) (span .f) (now (now (bounds .entry))) (now (now (values .entry)))) (natOf (today .0))) (now (now (nodes .entry))) from to (now (out .entry)) (now (out .exit)) count r ⌝ }
+    requires { ⌜ SpanIn (span .h) (span .f) × Kept (span .h) (span .f) (now (now bounds)) (now (now values)) × MonthIn (today .0) × (from ≤ to) × (to ≤ 512) × (5 * to ≤ length (now nodes)) × (count ≤ from) ⌝ }
+    ensures { λ r. ⌜ Copied (stepRow (readTable (span .h) (span .f) (now (now (bounds .entry))) (now (now (values .entry)))) (natOf (today .0))) (now (nodes .entry)) (now (nodes .exit)) from to count r ⌝ }
 {
-    step_each(*nodes, *values, *bounds, span, today, out, count, from, to)
+    let mut next = count;
+    let mut at = from;
+    while at < to {
+        next = rows::step_row(nodes, values, bounds, span, today, next, at);
+        at += 1;
+    }
+    next
 }
 
 // What the pair pays today, and how many rows of the plan for tomorrow are written.
@@ -121,81 +80,58 @@ pub struct Today {
 }
 
 // A waiting node and all that stands beneath it: the delay falls by one, and nothing is paid yet.
-fn keep_waiting(
-    nodes: &&[i64],
-    span: Span,
-    out: &mut [i64],
-    count: usize,
-    at: usize,
-    to: usize,
-) -> Today
-    requires { ⌜ SpanIn (span .h) (span .f) × (at < to) × (to ≤ 512) × (5 * to ≤ length (now (now nodes))) × (0 < natOf (slotAt (now (now nodes)) at 1)) × (5 * (count + (to - at)) ≤ length (now out)) ⌝ }
-    ensures { λ r. ⌜ (r .pence .0 ≡ pos 0) × Waits (span .h) (span .f) (now (now (nodes .entry))) at to (now (out .entry)) (now (out .exit)) count (r .next) ⌝ }
+fn keep_waiting(nodes: &mut [i64], span: Span, count: usize, at: usize, to: usize) -> Today
+    requires { ⌜ SpanIn (span .h) (span .f) × (at < to) × (to ≤ 512) × (5 * to ≤ length (now nodes)) × (0 < natOf (slotAt (now nodes) at 1)) × (count ≤ at) ⌝ }
+    ensures { λ r. ⌜ (r .pence .0 ≡ pos 0) × Waits (span .h) (span .f) (now (nodes .entry)) (now (nodes .exit)) at to count (r .next) ⌝ }
 {
     let nothing_yet = Pence(0);
-    let head = rows::put_delay(
-        nodes,
-        out,
-        count,
-        at,
-        offsets::earlier(node::delay(nodes, at)),
-    );
+    let d = offsets::earlier(reads::delay(nodes, at));
+    let head = rows::put_delay(nodes, count, at, d);
     Today {
         pence: nothing_yet,
-        next: restore_rows(nodes, span, out, head, at + 1, to),
+        next: restore_rows(nodes, span, head, at + 1, to),
     }
 }
 
 // The step of the plan that stands in the rows from node `at` up to node `to`, its root in month `today`, and what it pays in that
 // month. Both are found in one walk, so a test is tried once; what starts later pays nothing yet.
 pub fn step_plan(
-    nodes: &&[i64],
+    nodes: &mut [i64],
     values: &&[i64],
     bounds: &&[i64],
     span: Span,
     today: Month,
     pair: Pair,
-    out: &mut [i64],
     count: usize,
     at: usize,
     to: usize,
     left: usize,
 ) -> Today
-    requires { ⌜ MonthIn (today .0) × PairIn (pair .p) (pair .q) × Ready (span .h) (span .f) (now (now bounds)) (now (now values)) (natOf (today .0)) (now (now nodes)) at to left × (5 * (count + (to - at)) ≤ length (now out))
-        × PlanStands left (now (now nodes)) at × FinePlan (now (now values)) (signOf (pair .p) (pair .q)) (planAt natOf left (now (now nodes)) at) (natOf (today .0)) (natOf (today .0)) ⌝ }
-    ensures { λ r. ⌜ (r .pence .0 ≡ pays (flat (now (now (values .entry)))) (signOf (pair .p) (pair .q)) (planAt natOf left (now (now (nodes .entry))) at) (natOf (today .0)) (natOf (today .0)))
-        × (r .next + at ≤ count + to) × ((y : Ready (span .h) (span .f) (now (now (bounds .entry))) (now (now (values .entry))) (natOf (today .0)) (now (now (nodes .entry))) at to left)
-        → Appended (now (out .entry)) (now (out .exit)) count (r .next) (plainRows planForm (planTrees (closed (step (lookupOf (readTable (span .h) (span .f) (now (now (bounds .entry))) (now (now (values .entry))))) (natOf (today .0)) (y .plan))) end))) ⌝ }
+    requires { ⌜ MonthIn (today .0) × PairIn (pair .p) (pair .q) × Ready (span .h) (span .f) (now (now bounds)) (now (now values)) (natOf (today .0)) (now nodes) at to left × (count ≤ at)
+        × PlanStands left (now nodes) at × FinePlan (now (now values)) (signOf (pair .p) (pair .q)) (planAt natOf left (now nodes) at) (natOf (today .0)) (natOf (today .0)) ⌝ }
+    ensures { λ r. ⌜ (r .pence .0 ≡ pays (flat (now (now (values .entry)))) (signOf (pair .p) (pair .q)) (planAt natOf left (now (nodes .entry)) at) (natOf (today .0)) (natOf (today .0)))
+        × (r .next + at ≤ count + to) × ((y : Ready (span .h) (span .f) (now (now (bounds .entry))) (now (now (values .entry))) (natOf (today .0)) (now (nodes .entry)) at to left)
+        → Appended (now (nodes .entry)) (now (nodes .exit)) count (r .next) (plainRows planForm (planTrees (closed (step (lookupOf (readTable (span .h) (span .f) (now (now (bounds .entry))) (now (now (values .entry))))) (natOf (today .0)) (y .plan))) end))) ⌝ }
 {
-    let letter = node::plan_kind(nodes, at);
+    let letter = copies::plan_kind(nodes, at);
     match letter {
         PlanLetter::Nothing => {
-            let next = copies::put_letter(out, count, 90);
+            let next = copies::put_letter(nodes, count, 90);
             Today {
                 pence: Pence(0),
                 next,
             }
         }
         PlanLetter::Transfer => {
-            let pence = transfer::penny(nodes, at, pair);
-            let next = copies::put_letter(out, count, 90);
+            let pence = reads::penny(nodes, at, pair);
+            let next = copies::put_letter(nodes, count, 90);
             Today { pence, next }
         }
         PlanLetter::Scale => {
-            let second = nodes::link(nodes, at, 3);
-            let a = amounts::amount_value(nodes, values, today, at + 1, 512);
-            let head = copies::put_letter(out, count, 83);
-            let below = step_rows(
-                nodes,
-                values,
-                bounds,
-                span,
-                today,
-                out,
-                head,
-                at + 1,
-                second,
-            );
+            let second = copies::link(nodes, at, 3);
+            let a = reads::amount(nodes, values, today, at + 1);
+            let head = copies::put_letter(nodes, count, 83);
+            let below = step_rows(nodes, values, bounds, span, today, head, at + 1, second);
             let x = step_plan(
                 nodes,
                 values,
@@ -203,7 +139,6 @@ pub fn step_plan(
                 span,
                 today,
                 pair,
-                out,
                 below,
                 second,
                 to,
@@ -215,7 +150,7 @@ pub fn step_plan(
             }
         }
         PlanLetter::Later => {
-            let d = node::delay(nodes, at);
+            let d = reads::delay(nodes, at);
             if offsets::due(d) {
                 step_plan(
                     nodes,
@@ -224,19 +159,18 @@ pub fn step_plan(
                     span,
                     today,
                     pair,
-                    out,
                     count,
                     at + 1,
                     to,
                     left - 1,
                 )
             } else {
-                keep_waiting(nodes, span, out, count, at, to)
+                keep_waiting(nodes, span, count, at, to)
             }
         }
         PlanLetter::Both => {
-            let second = nodes::link(nodes, at, 3);
-            let head = copies::put_letter(out, count, 66);
+            let second = copies::link(nodes, at, 3);
+            let head = copies::put_letter(nodes, count, 66);
             let x = step_plan(
                 nodes,
                 values,
@@ -244,7 +178,6 @@ pub fn step_plan(
                 span,
                 today,
                 pair,
-                out,
                 head,
                 at + 1,
                 second,
@@ -257,7 +190,6 @@ pub fn step_plan(
                 span,
                 today,
                 pair,
-                out,
                 x.next,
                 second,
                 to,
@@ -269,9 +201,9 @@ pub fn step_plan(
             }
         }
         PlanLetter::Within => {
-            let second = nodes::link(nodes, at, 3);
-            let third = nodes::link(nodes, at, 4);
-            if amounts::test_holds(nodes, values, today, at + 1, 512) {
+            let second = copies::link(nodes, at, 3);
+            let third = copies::link(nodes, at, 4);
+            if reads::test(nodes, values, today, at + 1) {
                 step_plan(
                     nodes,
                     values,
@@ -279,14 +211,13 @@ pub fn step_plan(
                     span,
                     today,
                     pair,
-                    out,
                     count,
                     second,
                     third,
                     left - 1,
                 )
             } else {
-                let wait = node::delay(nodes, at);
+                let wait = reads::delay(nodes, at);
                 if offsets::due(wait) {
                     step_plan(
                         nodes,
@@ -295,14 +226,13 @@ pub fn step_plan(
                         span,
                         today,
                         pair,
-                        out,
                         count,
                         third,
                         to,
                         left - 1,
                     )
                 } else {
-                    keep_waiting(nodes, span, out, count, at, to)
+                    keep_waiting(nodes, span, count, at, to)
                 }
             }
         }

@@ -1,4 +1,4 @@
-// One row of the plan for tomorrow.
+// One row of the plan for tomorrow, written into the table of today's: row `count` from row `at`, which is not before it.
 ghost use mathlib.Core.Path.{_≡_};
 ghost use Prim.Native.Nat.{_*_, _+_, _≤_};
 ghost use lib.IntN.{pos};
@@ -14,24 +14,25 @@ ghost use Rattle.places.specs.Place.{SpanIn};
 ghost use Rattle.steps.specs.Offsets.{restoreRow, stepRow};
 ghost use Rattle.tables.specs.Lookup.{Kept, readTable};
 use crate::offsets;
+use crate::reads;
 use copies::Row;
 use integers::Month;
 use integers::Pence;
-use measures::node;
 use tables::Span;
 use tables::lookup;
 use tables::lookup::Found;
 
 // The row of an `L` or a `W`, with another delay.
-pub fn put_delay(nodes: &&[i64], out: &mut [i64], count: usize, at: usize, d: Month) -> usize
-    requires { ⌜ RowIn (now (now nodes)) at × (5 * count + 5 ≤ length (now out)) ⌝ }
-    ensures { λ r. ⌜ Appended (now (out .entry)) (now (out .exit)) count r (slotAt (now (now (nodes .entry))) at 0 ∷ d .0 ∷ pos 0 ∷ pos 0 ∷ pos 0 ∷ []) ⌝ }
+pub fn put_delay(nodes: &mut [i64], count: usize, at: usize, d: Month) -> usize
+    requires { ⌜ RowIn (now nodes) at × (count ≤ at) ⌝ }
+    ensures { λ r. ⌜ Appended (now (nodes .entry)) (now (nodes .exit)) count r (slotAt (now (nodes .entry)) at 0 ∷ d .0 ∷ pos 0 ∷ pos 0 ∷ pos 0 ∷ []) ⌝ }
 {
+    let letter = copies::slot(nodes, at, 0);
     copies::put_row(
-        out,
+        nodes,
         count,
         Row {
-            letter: nodes::slot(nodes, at, 0),
+            letter,
             a: d.0,
             b: 0,
             c: 0,
@@ -40,12 +41,12 @@ pub fn put_delay(nodes: &&[i64], out: &mut [i64], count: usize, at: usize, d: Mo
     )
 }
 
-fn put_number(out: &mut [i64], count: usize, n: Pence) -> usize
-    requires { ⌜ 5 * count + 5 ≤ length (now out) ⌝ }
-    ensures { λ r. ⌜ Appended (now (out .entry)) (now (out .exit)) count r (pos 78 ∷ n .0 ∷ pos 0 ∷ pos 0 ∷ pos 0 ∷ []) ⌝ }
+fn put_number(nodes: &mut [i64], count: usize, n: Pence) -> usize
+    requires { ⌜ 5 * count + 5 ≤ length (now nodes) ⌝ }
+    ensures { λ r. ⌜ Appended (now (nodes .entry)) (now (nodes .exit)) count r (pos 78 ∷ n .0 ∷ pos 0 ∷ pos 0 ∷ pos 0 ∷ []) ⌝ }
 {
     copies::put_row(
-        out,
+        nodes,
         count,
         Row {
             letter: 78,
@@ -58,16 +59,17 @@ fn put_number(out: &mut [i64], count: usize, n: Pence) -> usize
 }
 
 // The row of an `O`, with another offset.
-fn put_index(nodes: &&[i64], out: &mut [i64], count: usize, at: usize, i: Month) -> usize
-    requires { ⌜ RowIn (now (now nodes)) at × (5 * count + 5 ≤ length (now out)) ⌝ }
-    ensures { λ r. ⌜ Appended (now (out .entry)) (now (out .exit)) count r (pos 79 ∷ slotAt (now (now (nodes .entry))) at 1 ∷ i .0 ∷ pos 0 ∷ pos 0 ∷ []) ⌝ }
+fn put_index(nodes: &mut [i64], count: usize, at: usize, i: Month) -> usize
+    requires { ⌜ RowIn (now nodes) at × (count ≤ at) ⌝ }
+    ensures { λ r. ⌜ Appended (now (nodes .entry)) (now (nodes .exit)) count r (pos 79 ∷ slotAt (now (nodes .entry)) at 1 ∷ i .0 ∷ pos 0 ∷ pos 0 ∷ []) ⌝ }
 {
+    let label = copies::slot(nodes, at, 1);
     copies::put_row(
-        out,
+        nodes,
         count,
         Row {
             letter: 79,
-            a: nodes::slot(nodes, at, 1),
+            a: label,
             b: i.0,
             c: 0,
             d: 0,
@@ -87,38 +89,37 @@ fn value_in(values: &&[i64], bounds: &&[i64], span: Span, label: usize, month: M
     value
 }
 
-pub fn restore_row(nodes: &&[i64], span: Span, out: &mut [i64], count: usize, at: usize) -> usize
-    requires { ⌜ SpanIn (span .h) (span .f) × RowIn (now (now nodes)) at × (5 * count + 5 ≤ length (now out)) ⌝ }
-    ensures { λ r. ⌜ Appended (now (out .entry)) (now (out .exit)) count r (restoreRow (span .h) (span .f) (rowFrom (at * 5) (now (now (nodes .entry))))) ⌝ }
+pub fn restore_row(nodes: &mut [i64], span: Span, count: usize, at: usize) -> usize
+    requires { ⌜ SpanIn (span .h) (span .f) × RowIn (now nodes) at × (count ≤ at) ⌝ }
+    ensures { λ r. ⌜ Appended (now (nodes .entry)) (now (nodes .exit)) count r (restoreRow (span .h) (span .f) (rowFrom (at * 5) (now (nodes .entry)))) ⌝ }
 {
-    if node::is_index(nodes, at) {
-        let i = offsets::offset_of(span, node::label(nodes, at), node::offset(nodes, at));
-        return put_index(nodes, out, count, at, i);
+    if copies::is_index(nodes, at) {
+        let i = offsets::offset_of(span, reads::label(nodes, at), reads::offset(nodes, at));
+        return put_index(nodes, count, at, i);
     }
-    copies::copy_row(nodes, out, count, at)
+    copies::copy_row(nodes, count, at)
 }
 
 pub fn step_row(
-    nodes: &&[i64],
+    nodes: &mut [i64],
     values: &&[i64],
     bounds: &&[i64],
     span: Span,
     today: Month,
-    out: &mut [i64],
     count: usize,
     at: usize,
 ) -> usize
-    requires { ⌜ SpanIn (span .h) (span .f) × Kept (span .h) (span .f) (now (now bounds)) (now (now values)) × MonthIn (today .0) × RowIn (now (now nodes)) at × (5 * count + 5 ≤ length (now out)) ⌝ }
-    ensures { λ r. ⌜ Appended (now (out .entry)) (now (out .exit)) count r (stepRow (readTable (span .h) (span .f) (now (now (bounds .entry))) (now (now (values .entry)))) (natOf (today .0)) (rowFrom (at * 5) (now (now (nodes .entry))))) ⌝ }
+    requires { ⌜ SpanIn (span .h) (span .f) × Kept (span .h) (span .f) (now (now bounds)) (now (now values)) × MonthIn (today .0) × RowIn (now nodes) at × (count ≤ at) ⌝ }
+    ensures { λ r. ⌜ Appended (now (nodes .entry)) (now (nodes .exit)) count r (stepRow (readTable (span .h) (span .f) (now (now (bounds .entry))) (now (now (values .entry)))) (natOf (today .0)) (rowFrom (at * 5) (now (nodes .entry)))) ⌝ }
 {
-    if node::is_index(nodes, at) {
-        let label = node::label(nodes, at);
-        let i = offsets::offset_of(span, label, node::offset(nodes, at));
+    if copies::is_index(nodes, at) {
+        let label = reads::label(nodes, at);
+        let i = offsets::offset_of(span, label, reads::offset(nodes, at));
         if offsets::due(i) {
             let value = value_in(values, bounds, span, label, integers::later(today, i));
-            return put_number(out, count, value);
+            return put_number(nodes, count, value);
         }
-        return put_index(nodes, out, count, at, offsets::earlier(i));
+        return put_index(nodes, count, at, offsets::earlier(i));
     }
-    copies::copy_row(nodes, out, count, at)
+    copies::copy_row(nodes, count, at)
 }

@@ -1,9 +1,11 @@
 use lib.IntN.{predℤ}
 use mathlib.Core.Path.{_∙_, ap, refl, subst, sym}
 use native.Mathlib.Omega.{arith}
-use Prim.Native.Nat.{_<_}
-use Rattle.copies.proofs.Appending.{appended-as, appended-then, row-of}
+use Prim.Native.Nat.{_+_, _-_, _<_}
+use Rattle.copies.proofs.Appending.{appended-as, appended-then, kept-from, row-of}
+use Rattle.copies.specs.Copied.{changedRows}
 use Rattle.nodes.specs.Table.{natOf}
+use Rattle.steps.specs.Offsets.{restoreRow}
 use borrow.Author.Needs.{needs}
 use Rattle.steps.proofs.keep_waiting.Statement.{statement}
 use Rattle.steps.proofs.keep_waiting.Tie as tie
@@ -30,11 +32,13 @@ same-length c = search needs
 returns : tie.Need-returns
 returns c =
     let p = c .before .before .before .before .put-delay .ensures in
-    let q = c .before .restore-rows .ensures in (
+    let q = c .before .restore-rows .ensures in
+    let i = c .before .before .before .before .before .before .before .before .before in
+    let e = kept-from (i .args .at + 1) (omega (arith, p .ends, i .pre .5)) p in (
       refl,
       record {
-        counted = omega (arith, q .counted, p .ends, c .before .before .before .before .before .before .before .before .pre .1);
-        added = appended-then (appended-as (row-of refl (c .before .before .before .before .before .earlier .ensures ∙ ap predℤ (c .before .before .before .before .before .before .delay .ensures)) refl refl refl) p) (q .added);
+        counted = omega (arith, q .counted, p .ends, i .pre .1);
+        added = appended-then (appended-as (row-of refl (c .before .before .before .before .before .before .earlier .ensures ∙ ap predℤ (c .before .before .before .before .before .before .before .delay .ensures)) refl refl refl) p) (appended-as (ap (changedRows (restoreRow (i .args .span .h) (i .args .span .f)) (i .args .to - (i .args .at + 1))) e) (q .added));
       },
     )
 

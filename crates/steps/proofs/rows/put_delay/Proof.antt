@@ -18,9 +18,9 @@ same-length c = search needs
 
 returns : tie.Need-returns
 returns c =
-    let x = c .before .before .before .slot in
+    let x = c .before .before .before .before .slot in
     let f : SFits w64 (x .result) = search needs in
-    let g : SFits w64 (c .before .before .before .before .before .args .d .0) = search needs in
+    let g : SFits w64 (c .before .before .before .before .before .before .args .d .0) = search needs in
     appended-as (row-of (toZ-ofZ f ∙ x .ensures) (toZ-ofZ g) refl refl refl) (c .before .put-row .ensures)
 
 pub put-delay-spec : {M : Type 1} → statement M

@@ -25,8 +25,8 @@ same-length c = search needs
 
 returns : tie.Need-returns
 returns c =
-    let a = c .before .before .before .before .before .before .before .before .args in
-    appended-as (index-restored (a .nodes .now .now) (a .at) (a .span .h) (a .span .f) (sym (c .before .before .before .before .before .before .before .is-index .ensures) ∙ c .before .before .before .before .before .before .if1 .taken) (c .before .before .before .before .before .label .ensures) (c .before .before .before .before .offset .ensures) (c .before .before .before .offset-of .ensures)) (c .before .put-index .ensures)
+    let a = c .before .before .before .before .before .before .before .before .before .before .before .args in
+    appended-as (index-restored (a .nodes .now) (a .at) (a .span .h) (a .span .f) (sym (c .before .before .before .before .before .before .before .before .before .is-index .ensures) ∙ c .before .before .before .before .before .before .before .before .if1 .taken) (c .before .before .before .before .before .before .label .ensures) (c .before .before .before .before .offset .ensures) (c .before .before .before .offset-of .ensures)) (c .before .put-index .ensures)
 
 copy-row-requires : tie.Need-copy-row-requires
 copy-row-requires c κs = search needs
@@ -36,8 +36,8 @@ same-length-2 c = search needs
 
 returns-2 : tie.Need-returns-2
 returns-2 c =
-    let a = c .before .before .before .before .before .args in
-    appended-as (other-restored (a .nodes .now .now) (a .at) (a .span .h) (a .span .f) (sym (c .before .before .before .before .is-index .ensures) ∙ c .before .before .before .if1 .left)) (c .before .copy-row .ensures)
+    let a = c .before .before .before .before .before .before .args in
+    appended-as (other-restored (a .nodes .now) (a .at) (a .span .h) (a .span .f) (sym (c .before .before .before .before .is-index .ensures) ∙ c .before .before .before .if1 .left)) (c .before .copy-row .ensures)
 
 pub restore-row-spec : {M : Type 1} → statement M
 restore-row-spec =

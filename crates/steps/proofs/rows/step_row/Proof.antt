@@ -28,13 +28,13 @@ due-requires c κs = search needs
 
 later-requires : tie.Need-later-requires
 later-requires c κs =
-    let s = c .before .before .before .before .before .before .before in
+    let s = c .before .before .before .before .before .before .before .before .before .before in
     let a = s .args in
     (record { small = omega (arith, s .pre .2 .within) }, offset-small (a .span .h) (a .span .f) (s .pre .0) _ _ (c .before .before .offset-of .ensures))
 
 value-in-requires : tie.Need-value-in-requires
 value-in-requires c κs =
-    let s = c .before .before .before .before .before .before .before .before in
+    let s = c .before .before .before .before .before .before .before .before .before .before .before in
     let a = s .args in
     (s .pre .1, month-near (a .span .h) (a .span .f) (s .pre .0) _ _ (a .today .0) (s .pre .2 .within) (c .before .before .before .offset-of .ensures) (c .later .ensures))
 
@@ -46,11 +46,11 @@ same-length c = search needs
 
 returns : tie.Need-returns
 returns c =
-    let s = c .before .before .before .before .before .before .before .before .before .before .before .before in
+    let s = c .before .before .before .before .before .before .before .before .before .before .before .before .before .before .before in
     let a = s .args in
     let t = readTable (a .span .h) (a .span .f) (a .bounds .now .now) (a .values .now .now) in
-    let e = sym (c .before .before .before .before .before .before .before .before .before .before .before .is-index .ensures) ∙ c .before .before .before .before .before .before .before .before .before .before .if1 .taken in
-    appended-as (value-stepped (a .nodes .now .now) (a .at) t (natOf (a .today .0)) e (c .before .before .before .before .before .before .before .before .before .label .ensures) (c .before .before .before .before .before .before .before .before .offset .ensures) (c .before .before .before .before .before .before .before .offset-of .ensures) (sym (c .before .before .before .before .before .before .due .ensures) ∙ c .before .before .before .before .before .if2 .taken) (c .before .before .before .before .later .ensures ∙ ap (λ z. z +ℤ c .before .before .before .before .before .before .before .offset-of .result .0) (month-is (a .today .0) (s .pre .2 .known))) (c .before .before .before .value-in .ensures)) (c .before .put-number .ensures)
+    let e = sym (c .before .before .before .before .before .before .before .before .before .before .before .before .before .is-index .ensures) ∙ c .before .before .before .before .before .before .before .before .before .before .before .before .if1 .taken in
+    appended-as (value-stepped (a .nodes .now) (a .at) t (natOf (a .today .0)) e (c .before .before .before .before .before .before .before .before .before .before .label .ensures) (c .before .before .before .before .before .before .before .before .offset .ensures) (c .before .before .before .before .before .before .before .offset-of .ensures) (sym (c .before .before .before .before .before .before .due .ensures) ∙ c .before .before .before .before .before .if2 .taken) (c .before .before .before .before .later .ensures ∙ ap (λ z. z +ℤ c .before .before .before .before .before .before .before .offset-of .result .0) (month-is (a .today .0) (s .pre .2 .known))) (c .before .before .before .value-in .ensures)) (c .before .put-number .ensures)
 
 earlier-requires : tie.Need-earlier-requires
 earlier-requires c κs =
@@ -64,11 +64,11 @@ same-length-2 c = search needs
 
 returns-2 : tie.Need-returns-2
 returns-2 c =
-    let s = c .before .before .before .before .before .before .before .before .before .before .before in
+    let s = c .before .before .before .before .before .before .before .before .before .before .before .before .before .before in
     let a = s .args in
     let t = readTable (a .span .h) (a .span .f) (a .bounds .now .now) (a .values .now .now) in
-    let e = sym (c .before .before .before .before .before .before .before .before .before .before .is-index .ensures) ∙ c .before .before .before .before .before .before .before .before .before .if1 .taken in
-    appended-as (index-stepped (a .nodes .now .now) (a .at) t (natOf (a .today .0)) e (c .before .before .before .before .before .before .before .before .label .ensures) (c .before .before .before .before .before .before .before .offset .ensures) (c .before .before .before .before .before .before .offset-of .ensures) (sym (c .before .before .before .before .before .due .ensures) ∙ c .before .before .before .before .if2 .left) (c .before .before .earlier .ensures)) (c .before .put-index .ensures)
+    let e = sym (c .before .before .before .before .before .before .before .before .before .before .before .before .is-index .ensures) ∙ c .before .before .before .before .before .before .before .before .before .before .before .if1 .taken in
+    appended-as (index-stepped (a .nodes .now) (a .at) t (natOf (a .today .0)) e (c .before .before .before .before .before .before .before .before .before .label .ensures) (c .before .before .before .before .before .before .before .offset .ensures) (c .before .before .before .before .before .before .offset-of .ensures) (sym (c .before .before .before .before .before .due .ensures) ∙ c .before .before .before .before .if2 .left) (c .before .before .earlier .ensures)) (c .before .put-index .ensures)
 
 copy-row-requires : tie.Need-copy-row-requires
 copy-row-requires c κs = search needs
@@ -78,8 +78,8 @@ same-length-3 c = search needs
 
 returns-3 : tie.Need-returns-3
 returns-3 c =
-    let a = c .before .before .before .before .before .args in
-    appended-as (other-stepped (a .nodes .now .now) (a .at) (readTable (a .span .h) (a .span .f) (a .bounds .now .now) (a .values .now .now)) (natOf (a .today .0)) (sym (c .before .before .before .before .is-index .ensures) ∙ c .before .before .before .if1 .left)) (c .before .copy-row .ensures)
+    let a = c .before .before .before .before .before .before .args in
+    appended-as (other-stepped (a .nodes .now) (a .at) (readTable (a .span .h) (a .span .f) (a .bounds .now .now) (a .values .now .now)) (natOf (a .today .0)) (sym (c .before .before .before .before .is-index .ensures) ∙ c .before .before .before .if1 .left)) (c .before .copy-row .ensures)
 
 pub step-row-spec : {M : Type 1} → statement M
 step-row-spec =
