@@ -1,7 +1,7 @@
 // What a plan pays a pair in a month, and the month step.
 ghost use mathlib.Core.Path.{_≡_};
 ghost use mathlib.Core.Bool.{_&&_};
-ghost use Prim.Native.Nat.{_*_, _≤_};
+ghost use Prim.Native.Nat.{_≤_};
 ghost use lib.ListN.{length};
 ghost use Rattle.amounts.specs.Fine.{MonthIn};
 ghost use Rattle.amounts.specs.Flat.{flat};
@@ -298,37 +298,24 @@ pub enum Stepping {
 
 // The walk of the month step from the plan's root, its tables as one pointer each.
 fn step_plan(
-    nodes: &[i64],
+    nodes: &mut [i64],
     values: &[i64],
     bounds: &[i64],
     span: Span,
     today: Month,
     pair: Pair,
-    next: &mut [i64],
     count: usize,
 ) -> Today
-    requires { ⌜ MonthIn (today .0) × PairIn (pair .p) (pair .q) × Ready (span .h) (span .f) (now bounds) (now values) (natOf (today .0)) (now nodes) 0 count 32 × (5 * count ≤ length (now next))
+    requires { ⌜ MonthIn (today .0) × PairIn (pair .p) (pair .q) × Ready (span .h) (span .f) (now bounds) (now values) (natOf (today .0)) (now nodes) 0 count 32
         × PlanStands 32 (now nodes) 0 × FinePlan (now values) (signOf (pair .p) (pair .q)) (planAt natOf 32 (now nodes) 0) (natOf (today .0)) (natOf (today .0)) ⌝ }
     ensures { λ r. ⌜ (r .pence .0 ≡ pays (flat (now (values .entry))) (signOf (pair .p) (pair .q)) (planAt natOf 32 (now (nodes .entry)) 0) (natOf (today .0)) (natOf (today .0)))
         × (r .next ≤ count) × ((y : Ready (span .h) (span .f) (now (bounds .entry)) (now (values .entry)) (natOf (today .0)) (now (nodes .entry)) 0 count 32)
-        → Appended (now (next .entry)) (now (next .exit)) 0 (r .next) (plainRows planForm (planTrees (closed (step (lookupOf (readTable (span .h) (span .f) (now (bounds .entry)) (now (values .entry)))) (natOf (today .0)) (y .plan))) end))) ⌝ }
+        → Appended (now (nodes .entry)) (now (nodes .exit)) 0 (r .next) (plainRows planForm (planTrees (closed (step (lookupOf (readTable (span .h) (span .f) (now (bounds .entry)) (now (values .entry)))) (natOf (today .0)) (y .plan))) end))) ⌝ }
 {
-    steps::step_plan(
-        &nodes,
-        &values,
-        &bounds,
-        span,
-        today,
-        pair,
-        next,
-        0,
-        0,
-        count,
-        32,
-    )
+    steps::step_plan(nodes, &values, &bounds, span, today, pair, 0, 0, count, 32)
 }
 
-// The step of a plan that was read: accepted first, then what it pays today and, in a second table, the plan for tomorrow.
+// The step of a plan that was read: accepted first, then what it pays today and, in the same table, the plan for tomorrow.
 pub fn stepped(
     nodes: &mut [i64],
     count: usize,
@@ -340,10 +327,9 @@ pub fn stepped(
     today: Month,
     pair: Pair,
     asked: bool,
-    next: &mut [i64],
     out: &mut [u8],
 ) -> Stepping
-    requires { ⌜ Stands (now nodes) count × (asked ≡ pairOk (pair .p) (pair .q)) × (5 * count ≤ length (now next)) ⌝ }
+    requires { ⌜ Stands (now nodes) count × (asked ≡ pairOk (pair .p) (pair .q)) ⌝ }
     ensures { λ r. ⌜ ((x : Plan Delay) → Standing (now (nodes .entry)) count x
         → (now (out .exit) ≡ intoBuffer (now (out .entry)) (steppedBy
         (givenOf (now (days .entry)) (span .h) (span .f) (now (factors .entry)) (now (bounds .entry)) (now (values .entry)))
@@ -366,9 +352,9 @@ pub fn stepped(
     match checking {
         Checking::Accepted(length, magnitude) => {
             places::place_rows(nodes, count, span);
-            let answer = step_plan(nodes, values, bounds, span, today, pair, next, count);
+            let answer = step_plan(nodes, values, bounds, span, today, pair, count);
             let pence = answer.pence;
-            let written = writer::write_text(next, answer.next, 8_704, out);
+            let written = writer::write_text(nodes, answer.next, 8_704, out);
             match written {
                 Written::Bytes(bytes) => Stepping::Stepped(pence, bytes),
                 Written::NoRoom => Stepping::Refused(Refusal::NoRoom),
@@ -385,11 +371,10 @@ pub fn parties_ok(pair: Pair) -> bool
     tables::party_ok(pair.p) & tables::party_ok(pair.q)
 }
 
-// The call step with two tables lent, for the text's nodes and for those of tomorrow.
+// The call step with a table lent, for the text's nodes and then for those of tomorrow.
 fn step_in(
     text: &[u8],
     nodes: &mut [i64],
-    next: &mut [i64],
     days: &[i64],
     span: Span,
     factors: &[i64],
@@ -399,7 +384,7 @@ fn step_in(
     pair: Pair,
     out: &mut [u8],
 ) -> Stepping
-    requires { ⌜ Roomy (now text) (now nodes) × (length (now nodes) ≤ length (now next)) ⌝ }
+    requires { ⌜ Roomy (now text) (now nodes) ⌝ }
     ensures { λ r. ⌜ (now (out .exit) ≡ stepCall (now (text .entry))
         (givenOf (now (days .entry)) (span .h) (span .f) (now (factors .entry)) (now (bounds .entry)) (now (values .entry))) (today .0) (pair .p) (pair .q) (now (out .entry)) .buffer)
         × (steppingAnswer r ≡ stepCall (now (text .entry))
@@ -419,7 +404,6 @@ fn step_in(
             today,
             pair,
             asked,
-            next,
             out,
         ),
         Reading::Refused(refusal) => Stepping::Refused(refusal),
@@ -444,11 +428,9 @@ fn brief_step(
         (givenOf (now (days .entry)) (span .h) (span .f) (now (factors .entry)) (now (bounds .entry)) (now (values .entry))) (today .0) (pair .p) (pair .q) (now (out .entry)) .answer) ⌝ }
 {
     let mut nodes = [0i64; 480];
-    let mut next = [0i64; 480];
     step_in(
         text,
         &mut nodes,
-        &mut next,
         days,
         span,
         factors,
@@ -478,11 +460,9 @@ fn short_step(
         (givenOf (now (days .entry)) (span .h) (span .f) (now (factors .entry)) (now (bounds .entry)) (now (values .entry))) (today .0) (pair .p) (pair .q) (now (out .entry)) .answer) ⌝ }
 {
     let mut nodes = [0i64; 960];
-    let mut next = [0i64; 960];
     step_in(
         text,
         &mut nodes,
-        &mut next,
         days,
         span,
         factors,
@@ -511,11 +491,9 @@ fn long_step(
         (givenOf (now (days .entry)) (span .h) (span .f) (now (factors .entry)) (now (bounds .entry)) (now (values .entry))) (today .0) (pair .p) (pair .q) (now (out .entry)) .answer) ⌝ }
 {
     let mut nodes = [0i64; 2560];
-    let mut next = [0i64; 2560];
     step_in(
         text,
         &mut nodes,
-        &mut next,
         days,
         span,
         factors,

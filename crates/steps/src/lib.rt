@@ -1,5 +1,5 @@
-// The month step: the plan for tomorrow, in the table in which index readings are resolved. It has no more rows than today's up to any
-// node, so each row is written where one stood that has been read.
+// The month step: the plan for tomorrow, written into the table in which index readings are resolved. Up to any node it has no more
+// rows than today's, so a row is written only where all that is needed has been read.
 ghost use Prim.Native.Nat.{_*_, _+_, _<_, _≤_};
 ghost use lib.IntN.{pos};
 ghost use lib.ListN.{length};

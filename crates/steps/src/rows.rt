@@ -1,4 +1,4 @@
-// One row of the plan for tomorrow, written into the table of today's: row `count` from row `at`, which is not before it.
+// One row of the plan for tomorrow, as row `count` of the table in which today's stands; the row that it is made of is not before it.
 ghost use mathlib.Core.Path.{_≡_};
 ghost use Prim.Native.Nat.{_*_, _+_, _≤_};
 ghost use lib.IntN.{pos};

@@ -1,13 +1,11 @@
 use borrow.Author.Needs.{needs}
 use mathlib.Core.Path.{_∙_, ap, subst}
-use native.Mathlib.Omega.{arith}
 use Rattle.language.specs.Text.Letters.{planForm}
 use Rattle.language.specs.Text.Reader.{readText}
 use Rattle.payments.proofs.StepTexts.{plan-read, text-keeps, text-refusal}
 use Rattle.payments.proofs.step_in.Statement.{statement}
 use Rattle.payments.proofs.step_in.Tie as tie
 use Rattle.rules.proofs.Checks.{read-stands}
-use Rattle.rules.proofs.Filling.{standing-rows}
 use Rattle.rules.specs.Answers.{givenOf}
 use Rattle.text.specs.ReadInto.{ReadInto}
 
@@ -22,10 +20,10 @@ enum-known-reading c = search needs
 
 stepped-requires : tie.Need-stepped-requires
 stepped-requires c κs =
-    let a = c .before .before .before .before .before .before .before .before .before .before .before .before .args in
-    let r = c .before .before .before .before .before .before .before .read-plan in
-    let s = read-stands (a .text .now) _ _ (subst (ReadInto planForm (readText planForm (a .text .now)) (r .last .1 .0)) (c .before .before .before .before .reading .given .1) (r .ensures .0)) in
-    (s, c .before .before .before .before .before .before .before .before .before .parties-ok .ensures, omega (arith, standing-rows (s .standing), r .ensures .1, c .before .before .before .before .before .before .before .before .before .before .before .before .pre .1))
+    let a = c .before .before .before .before .before .before .before .before .before .before .before .args in
+    let r = c .before .before .before .before .before .before .read-plan in
+    let s = read-stands (a .text .now) _ _ (subst (ReadInto planForm (readText planForm (a .text .now)) (r .last .1 .0)) (c .before .before .before .reading .given .1) (r .ensures .0)) in
+    (s, c .before .before .before .before .before .before .before .before .parties-ok .ensures)
 
 enum-known-reading-2 : tie.Need-enum-known-reading-2
 enum-known-reading-2 c = search needs
@@ -36,19 +34,16 @@ same-length c = search needs
 same-length-2 : tie.Need-same-length-2
 same-length-2 c = search needs
 
-same-length-3 : tie.Need-same-length-3
-same-length-3 c = search needs
-
 returns : tie.Need-returns
 returns c =
-    let a = c .before .before .before .before .before .before .before .before .before .before .before .before .before .before .before .before .before .args in
-    let r = c .before .before .before .before .before .before .before .before .before .before .before .before .read-plan in
-    let n = plan-read (a .text .now) (givenOf (a .days .now) (a .span .h) (a .span .f) (a .factors .now) (a .bounds .now) (a .values .now)) (a .today .0) (a .pair .p) (a .pair .q) (a .out .now) _ _ (subst (ReadInto planForm (readText planForm (a .text .now)) (r .last .1 .0)) (c .before .before .before .before .before .before .before .before .before .reading .given .1) (r .ensures .0)) in
-    let k = c .before .before .before .before .stepped .ensures (n .plan) (n .stands) in
+    let a = c .before .before .before .before .before .before .before .before .before .before .before .before .before .before .before .args in
+    let r = c .before .before .before .before .before .before .before .before .before .before .read-plan in
+    let n = plan-read (a .text .now) (givenOf (a .days .now) (a .span .h) (a .span .f) (a .factors .now) (a .bounds .now) (a .values .now)) (a .today .0) (a .pair .p) (a .pair .q) (a .out .now) _ _ (subst (ReadInto planForm (readText planForm (a .text .now)) (r .last .1 .0)) (c .before .before .before .before .before .before .before .reading .given .1) (r .ensures .0)) in
+    let k = c .before .before .before .stepped .ensures (n .plan) (n .stands) in
     (k .0 ∙ ap (λ o. o .buffer) (n .is), k .1 ∙ ap (λ o. o .answer) (n .is))
 
-same-length-4 : tie.Need-same-length-4
-same-length-4 c = search needs
+same-length-3 : tie.Need-same-length-3
+same-length-3 c = search needs
 
 returns-2 : tie.Need-returns-2
 returns-2 c =
@@ -69,7 +64,6 @@ step-in-spec =
     enum-known-reading-2
     same-length
     same-length-2
-    same-length-3
     returns
-    same-length-4
+    same-length-3
     returns-2)

@@ -23,20 +23,19 @@ place-rows-requires c κs =
 
 step-plan-requires : tie.Need-step-plan-requires
 step-plan-requires c κs =
-    let s = c .before .before .before .before .before .before .before .before .before .before .before .before in
+    let s = c .before .before .before .before .before .before .before .before .before .before .before in
     let a = s .args in
-    let w = placing (a .pair .p) (a .pair .q) (c .before .before .before .before .before .before .before .before .before .accept .ensures) (s .pre .1) (c .before .before .before .before .before .before .checking .given .1) (s .pre .0 .standing) in
-    let r = c .before .before .before .place-rows in
-    (today-is w, pair-is w, ready w (r .last .0) (r .ensures), omega (arith, s .pre .2), stands w (r .last .0) (r .ensures), fine w (r .last .0) (r .ensures))
+    let w = placing (a .pair .p) (a .pair .q) (c .before .before .before .before .before .before .before .before .accept .ensures) (s .pre .1) (c .before .before .before .before .before .checking .given .1) (s .pre .0 .standing) in
+    let r = c .before .before .place-rows in
+    (today-is w, pair-is w, ready w (r .last .0) (r .ensures), stands w (r .last .0) (r .ensures), fine w (r .last .0) (r .ensures))
 
 write-text-requires : tie.Need-write-text-requires
 write-text-requires c κs =
-    let s = c .before .before .before .before .before .before .before .before .before .before .before .before .before .before .before .before .before in
-    let n = c .before .before .before .before .step-plan .ensures .1 in
-    let e = c .before .before .before .before .step-plan .kept .1 .1 .1 .1 .1 .1 .0 in
-    let w = placing (s .args .pair .p) (s .args .pair .q) (c .before .before .before .before .before .before .before .before .before .before .before .before .before .before .accept .ensures) (s .pre .1) (c .before .before .before .before .before .before .before .before .before .before .before .checking .given .1) (s .pre .0 .standing) in
-    let r = c .before .before .before .before .before .before .before .before .place-rows in
-    (omega (arith, s .pre .2, n, e), omega (arith, standing-few (s .pre .0 .standing), n), text-short w (r .last .0) (r .ensures) _ _ _ (c .before .before .before .before .step-plan .ensures .2))
+    let s = c .before .before .before .before .before .before .before .before .before .before .before .before .before .before .before .before in
+    let k = c .before .before .before .before .step-plan in
+    let r = c .before .before .before .before .before .before .before .place-rows in
+    let w = placing (s .args .pair .p) (s .args .pair .q) (c .before .before .before .before .before .before .before .before .before .before .before .before .before .accept .ensures) (s .pre .1) (c .before .before .before .before .before .before .before .before .before .before .checking .given .1) (s .pre .0 .standing) in
+    (omega (arith, standing-rows (w .filled), r .kept .0, k .kept .0, k .ensures .1), omega (arith, standing-few (s .pre .0 .standing), k .ensures .1), text-short w (r .last .0) (r .ensures) _ _ _ (k .ensures .2))
 
 enum-known-written : tie.Need-enum-known-written
 enum-known-written c = search needs
@@ -53,15 +52,12 @@ same-length c = search needs
 same-length-2 : tie.Need-same-length-2
 same-length-2 c = search needs
 
-same-length-3 : tie.Need-same-length-3
-same-length-3 c = search needs
-
 returns : tie.Need-returns
 returns c x y =
-    let s = c .before .before .before .before .before .before .before .before .before .before .before .before .before .before .before .before .before .before .before .before .before .before .before in
+    let s = c .before .before .before .before .before .before .before .before .before .before .before .before .before .before .before .before .before .before .before .before .before .before in
     let a = s .args in
-    let w = placing (a .pair .p) (a .pair .q) (c .before .before .before .before .before .before .before .before .before .before .before .before .before .before .before .before .before .before .before .before .accept .ensures) (s .pre .1) (c .before .before .before .before .before .before .before .before .before .before .before .before .before .before .before .before .before .checking .given .1) y in
-    let r = c .before .before .before .before .before .before .before .before .before .before .before .before .before .before .place-rows in
+    let w = placing (a .pair .p) (a .pair .q) (c .before .before .before .before .before .before .before .before .before .before .before .before .before .before .before .before .before .before .before .accept .ensures) (s .pre .1) (c .before .before .before .before .before .before .before .before .before .before .before .before .before .before .before .before .checking .given .1) y in
+    let r = c .before .before .before .before .before .before .before .before .before .before .before .before .before .place-rows in
     let k = c .before .before .before .before .before .before .before .before .before .before .step-plan in
     let o = c .before .before .before .before .before .write-text in
     let v = pence-are w (r .last .0) (r .ensures) (k .ensures .0) in (
@@ -69,21 +65,18 @@ returns c x y =
       with-bytes (k .result .pence) _ ∙ answer-is w (r .last .0) (r .ensures) _ _ _ (k .ensures .2) (a .out .now) v _ (ap writtenAnswer (sym (c .before .written .given .1)) ∙ o .ensures .1),
     )
 
+same-length-3 : tie.Need-same-length-3
+same-length-3 c = search needs
+
 same-length-4 : tie.Need-same-length-4
 same-length-4 c = search needs
 
-same-length-5 : tie.Need-same-length-5
-same-length-5 c = search needs
-
-same-length-6 : tie.Need-same-length-6
-same-length-6 c = search needs
-
 returns-2 : tie.Need-returns-2
 returns-2 c x y =
-    let s = c .before .before .before .before .before .before .before .before .before .before .before .before .before .before .before .before .before .before .before .before .before .before in
+    let s = c .before .before .before .before .before .before .before .before .before .before .before .before .before .before .before .before .before .before .before .before .before in
     let a = s .args in
-    let w = placing (a .pair .p) (a .pair .q) (c .before .before .before .before .before .before .before .before .before .before .before .before .before .before .before .before .before .before .before .accept .ensures) (s .pre .1) (c .before .before .before .before .before .before .before .before .before .before .before .before .before .before .before .before .checking .given .1) y in
-    let r = c .before .before .before .before .before .before .before .before .before .before .before .before .before .place-rows in
+    let w = placing (a .pair .p) (a .pair .q) (c .before .before .before .before .before .before .before .before .before .before .before .before .before .before .before .before .before .before .accept .ensures) (s .pre .1) (c .before .before .before .before .before .before .before .before .before .before .before .before .before .before .before .checking .given .1) y in
+    let r = c .before .before .before .before .before .before .before .before .before .before .before .before .place-rows in
     let k = c .before .before .before .before .before .before .before .before .before .step-plan in
     let o = c .before .before .before .before .write-text in
     let v = pence-are w (r .last .0) (r .ensures) (k .ensures .0) in (
@@ -91,8 +84,8 @@ returns-2 c x y =
       without-room (k .result .pence) ∙ answer-is w (r .last .0) (r .ensures) _ _ _ (k .ensures .2) (a .out .now) v _ (ap writtenAnswer (sym (c .enum-told .given .1)) ∙ o .ensures .1),
     )
 
-same-length-7 : tie.Need-same-length-7
-same-length-7 c = search needs
+same-length-5 : tie.Need-same-length-5
+same-length-5 c = search needs
 
 returns-3 : tie.Need-returns-3
 returns-3 c x y =
@@ -116,11 +109,9 @@ stepped-spec =
     enum-known-checking-2
     same-length
     same-length-2
-    same-length-3
     returns
+    same-length-3
     same-length-4
-    same-length-5
-    same-length-6
     returns-2
-    same-length-7
+    same-length-5
     returns-3)
