@@ -427,10 +427,10 @@ fn brief_step(
         × (steppingAnswer r ≡ stepCall (now (text .entry))
         (givenOf (now (days .entry)) (span .h) (span .f) (now (factors .entry)) (now (bounds .entry)) (now (values .entry))) (today .0) (pair .p) (pair .q) (now (out .entry)) .answer) ⌝ }
 {
-    let mut nodes = [0i64; 480];
+    let mut table = [0i64; 480];
     step_in(
         text,
-        &mut nodes,
+        &mut table,
         days,
         span,
         factors,
@@ -459,10 +459,10 @@ fn short_step(
         × (steppingAnswer r ≡ stepCall (now (text .entry))
         (givenOf (now (days .entry)) (span .h) (span .f) (now (factors .entry)) (now (bounds .entry)) (now (values .entry))) (today .0) (pair .p) (pair .q) (now (out .entry)) .answer) ⌝ }
 {
-    let mut nodes = [0i64; 960];
+    let mut table = [0i64; 960];
     step_in(
         text,
-        &mut nodes,
+        &mut table,
         days,
         span,
         factors,
@@ -490,10 +490,10 @@ fn long_step(
         × (steppingAnswer r ≡ stepCall (now (text .entry))
         (givenOf (now (days .entry)) (span .h) (span .f) (now (factors .entry)) (now (bounds .entry)) (now (values .entry))) (today .0) (pair .p) (pair .q) (now (out .entry)) .answer) ⌝ }
 {
-    let mut nodes = [0i64; 2560];
+    let mut table = [0i64; 2560];
     step_in(
         text,
-        &mut nodes,
+        &mut table,
         days,
         span,
         factors,
