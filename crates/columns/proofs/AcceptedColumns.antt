@@ -43,6 +43,15 @@ module _ (t : Table) (ok : tableOk t ≡ true) where
   magnitude-kept (both x y) = rw (magnitude-kept x, magnitude-kept y)
   magnitude-kept (within d u x y) = rw (magnitude-kept x, magnitude-kept y)
 
+  length-kept : (x : Plan ℕ) → lengthOf (placed x) ≡ lengthOf x
+  unfolding placedPlan lengthOf
+  length-kept nothing = refl
+  length-kept (transfer p q) = refl
+  length-kept (scale a x) = length-kept x
+  length-kept (later d x) = rw (length-kept x)
+  length-kept (both x y) = rw (length-kept x, length-kept y)
+  length-kept (within d u x y) = rw (length-kept x, length-kept y)
+
   -- an amount, worked out by places
   amount-size : (a : Amount ℤ) (r : ℕ) → natAbs (value (lookupOf t) a r) ≤ magnitudeOfAmount (boundAt t) a
   amount-size = value-size (lookupOf t) (boundAt t) (value-bounded t (rules-of t ok)) natAbs-floor
@@ -73,13 +82,13 @@ module _ (t : Table) (ok : tableOk t ≡ true) where
 
     -- with weight 1, into an empty column
     module _ (x : Plan ℕ) (r f : ℕ) (short : f ≤ maxMonths) (a : Accepted (boundAt t) maxAmount f (mayRead t) x r) (g : fieldsOf good x)
-        (column : List ℤ) (empty : (m : ℕ) → getD column m (pos 0) ≡ pos 0) (long : maxMonths < length column) where
+        (column : List ℤ) (empty : (m : ℕ) → getD column m (pos 0) ≡ pos 0) (long : f < length column) where
       pub weighed : Weighed (t .values) (placed x) r (pos 1) column
       weighed = record {
         bound = boundAt t;
         sized = sized x r (omega (arith, a .length, short)) (a .reads) g (a .small);
         light = record { small = omega arith };
-        months = long;
+        months = omega (arith, length-kept x, a .length, long);
         room = λ m l. rw (empty m, magnitude-kept x) (omega (arith, top-plan (λ y. magnitudeOf (boundAt t) y ≤ maxAmount) (λ b. magnitudeOfAmount (boundAt t) b ≤ maxAmount) x (a .small)));
       }
 

@@ -75,8 +75,8 @@ module _ {values nodes column : List ℤ} {r : ℕ} {w : ℤ} {left at : ℕ} wh
   no-plan-arm sg n = by-letter sg n (unchanged column w _ (λ m. refl))
 
   -- ---- T
-  pub penny-fits : ColumnNode values nodes column r w left at letter.Transfer → r ≤ maxMonths → PennyFits column r w
-  penny-fits n h = transfer-fits h (n .weighed)
+  pub penny-fits : ColumnNode values nodes column r w left at letter.Transfer → PennyFits column r w
+  penny-fits n = transfer-fits (n .weighed)
 
   pub transfer-arm : {after : List ℤ} (sg : Sign) → ColumnNode values nodes column r w left at letter.Transfer
       → Added column after w (pennyIn (sg (natOf (slotAt nodes at 1)) (natOf (slotAt nodes at 2))) r) → Added column after w (whole values nodes sg r left at)
@@ -159,11 +159,14 @@ module _ {values nodes column : List ℤ} {r : ℕ} {w : ℤ} {left at : ℕ} wh
 
     -- the wait ended in month k
     module _ {d : ℤ} (ed : d ≡ pos delay) (k : Month) where
+      within-delay : natOf (k .0) ≤ r + natOf d → natOf (k .0) ≤ r + delay
+      within-delay l =
+          let i : natOf d ≡ delay = ap natOf ed in
+          omega (arith, l, i)
+
       ended-in : T (nonNeg (k .0)) → natOf (k .0) ≤ r + natOf d → MonthIn (k .0)
       unfolding Sized
-      ended-in h l =
-          let i : natOf d ≡ delay = ap natOf ed in
-          month-in (k .0) h (omega (arith, l, i, n .weighed .sized .0))
+      ended-in h l = month-in (k .0) h (omega (arith, within-delay l, n .weighed .sized .0))
 
       module _ (e : Held k ≡ waitOf (tried test (natOf d) r)) {p : ℕ} (ep : p ≡ linkAt nodes at 3) where
         held-is : tried test delay r ≡ hit (natOf (k .0))
@@ -172,7 +175,7 @@ module _ {values nodes column : List ℤ} {r : ℕ} {w : ℤ} {left at : ℕ} wh
         pub held-walks : MonthIn (k .0) × Walks values nodes column (natOf (k .0)) w left p
         held-walks =
             let i = held-ended test (natOf d) r k e in
-            (ended-in (i .known) (i .within), rw ep (n .stands .1 .1, held-weighed (n .weighed) (natOf (k .0)) held-is))
+            (ended-in (i .known) (i .within), rw ep (n .stands .1 .1, held-weighed (n .weighed) (natOf (k .0)) (within-delay (i .within)) held-is))
 
         pub held-arm : (sg : Sign) {after : List ℤ} → Added column after w (paid values nodes sg (natOf (k .0)) left p) → Added column after w (whole values nodes sg r left at)
         unfolding pays
@@ -185,7 +188,7 @@ module _ {values nodes column : List ℤ} {r : ℕ} {w : ℤ} {left at : ℕ} wh
         pub missed-walks : MonthIn (k .0) × Walks values nodes column (natOf (k .0)) w left p
         missed-walks =
             let i = missed-ended test (natOf d) r k e .0 in
-            (ended-in (i .known) (i .within), rw ep (n .stands .2 .1, missed-weighed (n .weighed) (natOf (k .0)) missed-is))
+            (ended-in (i .known) (i .within), rw ep (n .stands .2 .1, missed-weighed (n .weighed) (natOf (k .0)) (within-delay (i .within)) missed-is))
 
         pub missed-arm : (sg : Sign) {after : List ℤ} → Added column after w (paid values nodes sg (natOf (k .0)) left p) → Added column after w (whole values nodes sg r left at)
         unfolding pays

@@ -16,7 +16,7 @@ use Rattle.integers.specs.Bounded.{Small}
 use Rattle.language.specs.Limits.{maxAmount, maxMonths}
 use Rattle.language.specs.Payments.Amounts.{holds, value}
 use Rattle.language.specs.Payments.Pays.{Sign, hit, miss, pays, started, tried}
-use Rattle.language.specs.Rules.Measures.{magnitudeOf, magnitudeOfAmount}
+use Rattle.language.specs.Rules.Measures.{lengthOf, magnitudeOf, magnitudeOfAmount}
 use Rattle.language.specs.Text.Trees.{Amount, Plan, Test, both, later, nothing, scale, transfer, within}
 
 -- nothing is paid, nothing is added
@@ -34,9 +34,9 @@ beyond-zero a (suc n) h k = absurd (omega (arith, mul-le-mul-left {m = 1} {n = s
 
 module _ {values : List ℤ} {r : ℕ} {w : ℤ} {column : List ℤ} where
   -- ---- T
-  pub transfer-fits : {p q : ℕ} → r ≤ maxMonths → Weighed values (transfer p q) r w column → PennyFits column r w
-  unfolding magnitudeOf
-  transfer-fits h k =
+  pub transfer-fits : {p q : ℕ} → Weighed values (transfer p q) r w column → PennyFits column r w
+  unfolding magnitudeOf lengthOf
+  transfer-fits k =
       let l : r < length column = omega (arith, k .months) in
       record { inside = l; room = omega (arith, k .room r l) }
 
@@ -53,7 +53,7 @@ module _ {values : List ℤ} {r : ℕ} {w : ℤ} {column : List ℤ} where
         (mul-le-mul-left (natAbs w) (mul-le-mul-right (magnitudeOf (k .bound) x) (k .sized .2)))
 
     pub scale-weighed : {z : ℤ} → z ≡ w *ℤ v → Small (w *ℤ v) → Weighed values x r z column
-    unfolding Sized magnitudeOf
+    unfolding Sized magnitudeOf lengthOf
     scale-weighed {z} e s = rw e (record {
       bound = k .bound;
       sized = k .sized .3;
@@ -81,8 +81,8 @@ module _ {values : List ℤ} {r : ℕ} {w : ℤ} {column : List ℤ} where
     parts = mul-add (natAbs w) (magnitudeOf (k .bound) x) (magnitudeOf (k .bound) y)
 
     pub first-weighed : Weighed values x r w column
-    unfolding Sized magnitudeOf
-    first-weighed = record { bound = k .bound; sized = k .sized .0; light = k .light; months = k .months; room = λ m l. omega (arith, k .room m l, parts) }
+    unfolding Sized magnitudeOf lengthOf
+    first-weighed = record { bound = k .bound; sized = k .sized .0; light = k .light; months = omega (arith, k .months); room = λ m l. omega (arith, k .room m l, parts) }
 
     module _ (sg : Sign) (unit : (p q : ℕ) → natAbs (sg p q) ≤ 1) {mid : List ℤ} (e : length mid ≡ length column) (d : Added column mid w (pays (flat values) sg x r)) where
       grown : (m : ℕ) → m < length column → natAbs (getD mid m (pos 0)) ≤ natAbs (getD column m (pos 0)) + natAbs w * magnitudeOf (k .bound) x
@@ -93,7 +93,7 @@ module _ {values : List ℤ} {r : ℕ} {w : ℤ} {column : List ℤ} where
           (rw natAbs-mul (omega (arith, mul-le-mul-left (natAbs w) (sized-pays values (k .bound) sg unit m x r (k .sized .0))))))
 
       pub second-weighed : Weighed values y r w mid
-      unfolding Sized magnitudeOf
+      unfolding Sized magnitudeOf lengthOf
       second-weighed = record {
         bound = k .bound;
         sized = k .sized .1;
@@ -113,8 +113,8 @@ module _ {values : List ℤ} {r : ℕ} {w : ℤ} {column : List ℤ} where
 
   -- ---- L
   pub later-weighed : {d : ℕ} {x : Plan ℕ} → Weighed values (later d x) r w column → (r + d ≤ maxMonths) × Weighed values x (r + d) w column
-  unfolding Sized magnitudeOf
-  later-weighed k = (k .sized .0, record { bound = k .bound; sized = k .sized .1; light = k .light; months = k .months; room = k .room })
+  unfolding Sized magnitudeOf lengthOf
+  later-weighed k = (k .sized .0, record { bound = k .bound; sized = k .sized .1; light = k .light; months = omega (arith, k .months); room = k .room })
 
   -- ---- W
   module _ {d : ℕ} {t : Test ℤ} {x y : Plan ℕ} (k : Weighed values (within d t x y) r w column) where
@@ -124,22 +124,22 @@ module _ {values : List ℤ} {r : ℕ} {w : ℤ} {column : List ℤ} where
     greater-second : (n o : ℕ) → natAbs w * o ≤ natAbs w * max n o
     greater-second n o = mul-le-mul-left (natAbs w) (le-max-right n o)
 
-    pub held-weighed : (j : ℕ) → tried (holds (flat values) t) d r ≡ hit j → Weighed values x j w column
-    unfolding Sized magnitudeOf
-    held-weighed j e = record {
+    pub held-weighed : (j : ℕ) → j ≤ r + d → tried (holds (flat values) t) d r ≡ hit j → Weighed values x j w column
+    unfolding Sized magnitudeOf lengthOf
+    held-weighed j b e = record {
       bound = k .bound;
       sized = subst (started (λ j. Sized values (k .bound) x j) (λ j. Sized values (k .bound) y j)) e (k .sized .2);
       light = k .light;
-      months = k .months;
+      months = omega (arith, k .months);
       room = λ m l. omega (arith, k .room m l, greater (magnitudeOf (k .bound) x) (magnitudeOf (k .bound) y));
     }
 
-    pub missed-weighed : (j : ℕ) → tried (holds (flat values) t) d r ≡ miss j → Weighed values y j w column
-    unfolding Sized magnitudeOf
-    missed-weighed j e = record {
+    pub missed-weighed : (j : ℕ) → j ≤ r + d → tried (holds (flat values) t) d r ≡ miss j → Weighed values y j w column
+    unfolding Sized magnitudeOf lengthOf
+    missed-weighed j b e = record {
       bound = k .bound;
       sized = subst (started (λ j. Sized values (k .bound) x j) (λ j. Sized values (k .bound) y j)) e (k .sized .2);
       light = k .light;
-      months = k .months;
+      months = omega (arith, k .months);
       room = λ m l. omega (arith, k .room m l, greater-second (magnitudeOf (k .bound) x) (magnitudeOf (k .bound) y));
     }

@@ -13,7 +13,7 @@ use Rattle.integers.specs.Bounded.{Small}
 use Rattle.language.specs.Limits.{maxAmount, maxMonths}
 use Rattle.language.specs.Payments.Amounts.{holds, value}
 use Rattle.language.specs.Payments.Pays.{started, tried}
-use Rattle.language.specs.Rules.Measures.{magnitudeOf, magnitudeOfAmount}
+use Rattle.language.specs.Rules.Measures.{lengthOf, magnitudeOf, magnitudeOfAmount}
 use Rattle.language.specs.Text.Trees.{Plan, both, later, nothing, scale, transfer, within}
 
 -- each month of the column has w times what that month pays added
@@ -44,5 +44,6 @@ pub record Weighed (values : List ℤ) (x : Plan ℕ) (r : ℕ) (w : ℤ) (colum
   pub bound : ℕ → ℕ
   pub sized : Sized values bound x r
   pub light : Small w
-  pub months : maxMonths < length column
+  -- it pays in no month after its length
+  pub months : r + lengthOf x < length column
   pub room : (m : ℕ) → m < length column → natAbs (getD column m (pos 0)) + natAbs w * magnitudeOf bound x ≤ maxAmount

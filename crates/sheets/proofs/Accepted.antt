@@ -83,8 +83,8 @@ module _ {days : List ℤ} {h f : ℤ} {factors bounds values : List ℤ} {p q :
     found-is : planAt natOf 32 placed 0 ≡ placedPlan (placeIn (tableOf h f factors bounds values)) y
     found-is = step.found w placed e .is
 
-    longer : maxMonths < length column
-    longer = omega (arith, long)
+    longer : natAbs f < length column
+    longer = omega (arith, long, short)
 
     pub weighs : Weighed values (planAt natOf 32 placed 0) 0 (pos 1) column
     weighs =

@@ -7,7 +7,6 @@ use Rattle.pays.proofs.PlanNodes.{plan-inside}
 use Rattle.pays.proofs.PlanParts.{delay-small, later-is, month-small}
 use Rattle.language.specs.Calls.{signOf}
 use lib.ListN.{length}
-use Rattle.nodes.proofs.Signed.{natOf-known}
 use Prim.Native.Nat.{ℕ, _<_}
 use borrow.Fn.Kinds.{In}
 use borrow.Fn.PlainCycle.{Measures, is, falls, and}
@@ -46,7 +45,7 @@ plan-column-add-penny-requires : (t : ℕ) → plan-column-lts.Need-add-penny-re
 plan-column-add-penny-requires t c κs =
     let h = c .before .before .before .before .pre .1 in
     let n = node.column-node (h .2) (h .3) (c .before .before .before .letter .ensures) (c .before .enum-told2 .given .1) in
-    (n .inside, h .0, h .1, node.penny-fits n (omega (arith, h .0 .within, natOf-known (c .before .before .before .before .args .root .0) (h .0 .known))))
+    (n .inside, h .0, h .1, node.penny-fits n)
 
 plan-column-add-amount-value : (t : ℕ) → plan-column-lts.Need-add-amount-value (plan-column-calls t) (plan-column-at t) plan-column.Post
 plan-column-add-amount-value t c =
