@@ -44,12 +44,13 @@ use Rattle.rules.specs.Measured.{checkedOf}
 use Rattle.rules.specs.declared.Checking.the-variants.{Accepted}
 use Rattle.sheets.proofs.AnswerTexts.{head-line, month-lines}
 use Rattle.sheets.specs.Answers.{answerInto, answerOf, sheetOf}
+use Rattle.sheets.specs.Held.{Cleared}
 use Rattle.tables.specs.Given.{tableOf}
 use Rattle.tables.specs.Lookup.{KeptSpan}
 use Rattle.writer.specs.Written.{slot}
 
 -- a list of zeros is empty in each place
-pub zeros-empty : (n m : ℕ) → getD (replicate n (pos 0)) m (pos 0) ≡ pos 0
+zeros-empty : (n m : ℕ) → getD (replicate n (pos 0)) m (pos 0) ≡ pos 0
 zeros-empty zero zero = refl
 zeros-empty zero (suc m) = refl
 zeros-empty (suc n) zero = refl
@@ -79,12 +80,15 @@ module _ {days : List ℤ} {h f : ℤ} {factors bounds values : List ℤ} {p q :
   opening = record { plan = x; reads = plan-round-trip x (w .stood .formed); passed = w .accepted .passed }
 
   -- ---- the column
-  module _ (placed : List ℤ) (e : placed ≡ mapRows (placeRow h f) count after) (column : List ℤ) (empty : (m : ℕ) → getD column m (pos 0) ≡ pos 0) (long : length column ≡ 601) where
+  module _ (placed : List ℤ) (e : placed ≡ mapRows (placeRow h f) count after) (column : List ℤ) (cleared : Cleared column) (long : length factors ≤ length column) where
     found-is : planAt natOf 32 placed 0 ≡ placedPlan (placeIn (tableOf h f factors bounds values)) y
     found-is = step.found w placed e .is
 
     longer : natAbs f < length column
-    longer = omega (arith, long, short)
+    longer = omega (arith, factors-count, long)
+
+    empty : (m : ℕ) → getD column m (pos 0) ≡ pos 0
+    empty m = ap (λ l. getD l m (pos 0)) cleared ∙ zeros-empty (length column) m
 
     pub weighs : Weighed values (planAt natOf 32 placed 0) 0 (pos 1) column
     weighs =
@@ -95,7 +99,7 @@ module _ {days : List ℤ} {h f : ℤ} {factors bounds values : List ℤ} {p q :
       pub column-pays : (m : ℕ) → m ≤ natAbs f → getD paid m (pos 0) ≡ pays (lookupOf (tableOf h f factors bounds values)) (signOf p q) y 0 m
       column-pays m l =
           column-is (tableOf h f factors bounds values) (w .accepted .passed .table) filledInForm y 0 (natAbs f) short (w .accepted .passed .meets) (step.formed w .fields) column empty longer (signOf p q)
-          (subst (λ z. Added column paid (pos 1) (pays (flat values) (signOf p q) z 0)) found-is d) m (omega (arith, long, short))
+          (subst (λ z. Added column paid (pos 1) (pays (flat values) (signOf p q) z 0)) found-is d) m (omega (arith, longer))
 
       pub sums : SumsFit factors paid (suc (natAbs f))
       sums = sums-fit c opening p q paid column-pays

@@ -1,7 +1,7 @@
 -- A sheet that was read into lists that hold its table, or all of a table that keeps the rules.
 use Prim.Native.Nat.{_*_, _+_, _-_, _<_, _≤_, ℕ}
-use lib.IntN.{ℤ}
-use lib.ListN.{length}
+use lib.IntN.{pos, ℤ}
+use lib.ListN.{length, replicate}
 use mathlib.Core.List.{List}
 use mathlib.Core.Path.{_≡_}
 use Rattle.language.specs.Limits.{maxNodes, sheetBytes}
@@ -26,7 +26,11 @@ PlanRoom sheet nodes = (n : ℕ) → n < maxNodes → 2 * n < sheet .to - sheet 
 
 -- a lent list holds a number for each month of a table that keeps the rules
 abbrev pub MonthRoom : Sheet → List ℤ → Type 0
-MonthRoom sheet rest = sheet .factors ≤ 601 → sheet .factors ≤ length rest
+MonthRoom sheet months = sheet .factors ≤ 601 → sheet .factors ≤ length months
+
+-- a lent list is cleared: payments are added to what stands in it
+abbrev pub Cleared : List ℤ → Type 0
+Cleared column = column ≡ replicate (length column) (pos 0)
 
 -- what is answered with lists of so many months and places: the call's answer, or nothing yet, unless they hold every table that keeps the rules
 abbrev pub TriedIs : List ℕ → ℕ → ℕ → List ℕ → List ℕ → Tried → Type 0

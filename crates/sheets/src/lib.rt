@@ -19,7 +19,7 @@ ghost use Rattle.pays.specs.Parties.{PairIn};
 ghost use Rattle.rules.specs.Answers.{givenOf};
 ghost use Rattle.rules.specs.Standing.{Standing, Stands};
 ghost use Rattle.sheets.specs.Answers.{answerInto, refusalInto};
-ghost use Rattle.sheets.specs.Held.{MonthRoom, PlanRoom, SheetHeld, TriedIs};
+ghost use Rattle.sheets.specs.Held.{Cleared, MonthRoom, PlanRoom, SheetHeld, TriedIs};
 ghost use Rattle.tables.specs.Lookup.{KeptSpan};
 ghost use Rattle.text.specs.Refusals.{numberOf};
 ghost use Rattle.writer.specs.Answers.{writtenAnswer};
@@ -72,10 +72,11 @@ pub fn answer(
     values: &[i64],
     pair: Pair,
     asked: bool,
+    column: &mut [i64],
     rest: &mut [i64],
     out: &mut [u8],
 ) -> Written
-    requires { ⌜ Stands (now nodes) count × (asked ≡ pairOk (pair .p) (pair .q)) × (length (now factors) ≤ length (now rest)) ⌝ }
+    requires { ⌜ Stands (now nodes) count × (asked ≡ pairOk (pair .p) (pair .q)) × (length (now factors) ≤ length (now column)) × Cleared (now column) × (length (now factors) ≤ length (now rest)) ⌝ }
     ensures { λ r. ⌜ ((x : Plan Delay) → Standing (now (nodes .entry)) count x
         → (now (out .exit) ≡ answerInto
         (givenOf (now (days .entry)) (span .h) (span .f) (now (factors .entry)) (now (bounds .entry)) (now (values .entry)))
@@ -98,14 +99,13 @@ pub fn answer(
     match checking {
         Checking::Accepted(length, magnitude) => {
             places::place_rows(nodes, count, span);
-            let mut column = [0i64; 601];
-            plan_column(nodes, values, pair, &mut column);
+            plan_column(nodes, values, pair, column);
             let months = months_of(span);
-            remaining::add_back(factors, &column, rest, months);
+            remaining::add_back(factors, column, rest, months);
             let a = integers::magnitude(length.0) as i64;
             let b = integers::magnitude(magnitude.0) as i64;
             let head = [a, b];
-            printing::write_answer(&head, &column, rest, months, out)
+            printing::write_answer(&head, column, rest, months, out)
         }
         Checking::Refused(refusal) => refuse(refusal, out),
     }
@@ -125,11 +125,12 @@ fn settings_of(sheet: Sheet) -> usize
     if sheet.days <= 9 { sheet.days } else { 9 }
 }
 
-// The answer of a sheet that was read, with a table lent for its plan and a list for what is left in each month.
+// The answer of a sheet that was read, with a table lent for its plan and lists for what is paid and what is left in each month.
 fn answer_with(
     input: &[u8],
     sheet: Sheet,
     nodes: &mut [i64],
+    column: &mut [i64],
     rest: &mut [i64],
     days: &[i64],
     factors: &[i64],
@@ -137,7 +138,7 @@ fn answer_with(
     values: &[i64],
     out: &mut [u8],
 ) -> Written
-    requires { ⌜ SheetHeld (now input) (now days) (now factors) (now bounds) (now values) sheet × PlanRoom sheet (now nodes) × MonthRoom sheet (now rest) ⌝ }
+    requires { ⌜ SheetHeld (now input) (now days) (now factors) (now bounds) (now values) sheet × PlanRoom sheet (now nodes) × MonthRoom sheet (now column) × Cleared (now column) × MonthRoom sheet (now rest) ⌝ }
     ensures { λ r. ⌜ (now (out .exit) ≡ sheetCall (now (input .entry)) (now (out .entry)) .buffer)
         × (writtenAnswer r ≡ sheetCall (now (input .entry)) (now (out .entry)) .answer) ⌝ }
 {
@@ -167,6 +168,7 @@ fn answer_with(
                     &values[0..places],
                     pair,
                     asked,
+                    column,
                     rest,
                     out,
                 )
@@ -178,7 +180,37 @@ fn answer_with(
     }
 }
 
-// A plan of few bytes has few nodes, and a short table is cleared sooner: 96 rows, 192 or all 512.
+// A plan of few bytes has few nodes, and a short table is cleared sooner: 48 rows, 96, 192 or all 512.
+fn small_answer(
+    input: &[u8],
+    sheet: Sheet,
+    days: &[i64],
+    factors: &[i64],
+    bounds: &[i64],
+    values: &[i64],
+    out: &mut [u8],
+) -> Written
+    requires { ⌜ SheetHeld (now input) (now days) (now factors) (now bounds) (now values) sheet × (sheet .to - sheet .from ≤ 96) × (sheet .factors ≤ 64) ⌝ }
+    ensures { λ r. ⌜ (now (out .exit) ≡ sheetCall (now (input .entry)) (now (out .entry)) .buffer)
+        × (writtenAnswer r ≡ sheetCall (now (input .entry)) (now (out .entry)) .answer) ⌝ }
+{
+    let mut nodes = [0i64; 240];
+    let mut column = [0i64; 64];
+    let mut rest = [0i64; 64];
+    answer_with(
+        input,
+        sheet,
+        &mut nodes,
+        &mut column,
+        &mut rest,
+        days,
+        factors,
+        bounds,
+        values,
+        out,
+    )
+}
+
 fn brief_answer(
     input: &[u8],
     sheet: Sheet,
@@ -193,11 +225,13 @@ fn brief_answer(
         × (writtenAnswer r ≡ sheetCall (now (input .entry)) (now (out .entry)) .answer) ⌝ }
 {
     let mut nodes = [0i64; 480];
+    let mut column = [0i64; 64];
     let mut rest = [0i64; 64];
     answer_with(
         input,
         sheet,
         &mut nodes,
+        &mut column,
         &mut rest,
         days,
         factors,
@@ -221,11 +255,13 @@ fn short_answer(
         × (writtenAnswer r ≡ sheetCall (now (input .entry)) (now (out .entry)) .answer) ⌝ }
 {
     let mut nodes = [0i64; 960];
+    let mut column = [0i64; 601];
     let mut rest = [0i64; 601];
     answer_with(
         input,
         sheet,
         &mut nodes,
+        &mut column,
         &mut rest,
         days,
         factors,
@@ -249,11 +285,13 @@ fn long_answer(
         × (writtenAnswer r ≡ sheetCall (now (input .entry)) (now (out .entry)) .answer) ⌝ }
 {
     let mut nodes = [0i64; 2560];
+    let mut column = [0i64; 601];
     let mut rest = [0i64; 601];
     answer_with(
         input,
         sheet,
         &mut nodes,
+        &mut column,
         &mut rest,
         days,
         factors,
@@ -280,8 +318,11 @@ fn answer_read(
     let from = sheet.from;
     let to = sheet.to;
     let months = sheet.factors;
-    if to - from <= 192 {
-        if months <= 64 {
+    if months <= 64 {
+        if to - from <= 96 {
+            return small_answer(input, sheet, days, factors, bounds, values, out);
+        }
+        if to - from <= 192 {
             return brief_answer(input, sheet, days, factors, bounds, values, out);
         }
     }

@@ -14,7 +14,7 @@ use Rattle.printing.specs.Lines.{answerCall}
 use Rattle.payments.proofs.StepPlaced.{pair-is, placing, rows-in, span-in, stands}
 use Rattle.rules.proofs.Filling.{standing-rows}
 use Rattle.rules.specs.Answers.{checkingAnswer}
-use Rattle.sheets.proofs.Accepted.{answer-is, factors-count, length-is, length-small, magnitude-is, magnitude-small, span-kept, sums, weighs, zeros-empty}
+use Rattle.sheets.proofs.Accepted.{answer-is, factors-count, length-is, length-small, magnitude-is, magnitude-small, span-kept, sums, weighs}
 use Rattle.sheets.proofs.Refusals.{refused-into}
 use Rattle.sheets.proofs.answer.Statement.{statement}
 use Rattle.sheets.proofs.answer.Tie as tie
@@ -35,7 +35,7 @@ plan-column-requires c κs =
     let a = s .args in
     let w = placing (a .pair .p) (a .pair .q) (c .before .before .before .before .before .before .before .before .before .accept .ensures) (s .pre .1) (c .before .before .before .before .before .before .checking .given .1) (s .pre .0 .standing) in
     let r = c .before .before .before .place-rows in
-    (pair-is w, stands w (r .last .0) (r .ensures), weighs w (r .last .0) (r .ensures) _ (zeros-empty 601) refl)
+    (pair-is w, stands w (r .last .0) (r .ensures), weighs w (r .last .0) (r .ensures) _ (s .pre .3) (s .pre .2))
 
 months-of-requires : tie.Need-months-of-requires
 months-of-requires c κs =
@@ -51,8 +51,8 @@ add-back-requires c κs =
     let w = placing (a .pair .p) (a .pair .q) (c .before .before .before .before .before .before .before .before .before .before .before .before .before .before .accept .ensures) (s .pre .1) (c .before .before .before .before .before .before .before .before .before .before .before .checking .given .1) (s .pre .0 .standing) in
     let r = c .before .before .before .before .before .before .before .before .place-rows in
     let n = c .before .before .months-of .ensures in
-    let k : length (c .before .before .before .before .plan-column .last .1 .1 .1 .0) ≡ 601 = search needs in
-    (omega (arith, n, factors-count w), omega (arith, n, k, span-kept w .fTo), omega (arith, n, factors-count w, s .pre .2), rw n (sums w (r .last .0) (r .ensures) _ (zeros-empty 601) refl (c .before .before .before .before .plan-column .ensures)))
+    let k : length (c .before .before .before .before .plan-column .last .1 .1 .1 .0) ≡ length (a .column .now) = search needs in
+    (omega (arith, n, factors-count w), omega (arith, n, k, factors-count w, s .pre .2), omega (arith, n, factors-count w, s .pre .4), rw n (sums w (r .last .0) (r .ensures) _ (s .pre .3) (s .pre .2) (c .before .before .before .before .plan-column .ensures)))
 
 cast-a : tie.Need-cast-a
 cast-a c =
@@ -84,9 +84,9 @@ write-answer-requires c κs =
     let a = s .args in
     let w = placing (a .pair .p) (a .pair .q) (c .before .before .before .before .before .before .before .before .before .before .before .before .before .before .before .before .before .before .before .before .before .before .before .before .accept .ensures) (s .pre .1) (c .before .before .before .before .before .before .before .before .before .before .before .before .before .before .before .before .before .before .before .before .before .checking .given .1) (s .pre .0 .standing) in
     let n = c .before .before .before .before .before .before .before .before .before .before .before .before .months-of .ensures in
-    let k : length (c .before .before .before .before .before .before .before .before .before .before .before .before .before .before .plan-column .last .1 .1 .1 .0) ≡ 601 = c .before .before .before .before .before .before .before .before .before .before .before .before .before .before .plan-column .kept .1 .1 .1 .0 in
+    let k : length (c .before .before .before .before .before .before .before .before .before .before .before .before .before .before .plan-column .last .1 .1 .1 .0) ≡ length (a .column .now) = c .before .before .before .before .before .before .before .before .before .before .before .before .before .before .plan-column .kept .1 .1 .1 .0 in
     let i : length (c .before .before .before .before .before .before .before .before .before .add-back .last .1 .1 .0) ≡ length (a .rest .now) = c .before .before .before .before .before .before .before .before .before .add-back .kept .1 .1 .0 in
-    (omega arith, omega (arith, n, k, span-kept w .fTo), omega (arith, n, i, factors-count w, s .pre .2), omega (arith, n, span-kept w .fTo))
+    (omega arith, omega (arith, n, k, factors-count w, s .pre .2), omega (arith, n, i, factors-count w, s .pre .4), omega (arith, n, span-kept w .fTo))
 
 returns : tie.Need-returns
 returns c = λ x y.
@@ -107,7 +107,7 @@ returns c = λ x y.
     let n = c .before .before .before .before .before .before .before .before .before .before .before .before .before .before .before .months-of .ensures in
     let rest = subst (λ k. (m : ℕ) → m < k → getD (c .before .before .before .before .before .before .before .before .before .before .before .before .add-back .last .1 .1 .0) m (pos 0) ≡ restFrom (a .factors .now) (c .before .before .before .before .before .before .before .before .before .before .before .before .before .before .before .before .before .plan-column .last .1 .1 .1 .0) k m) n (c .before .before .before .before .before .before .before .before .before .before .before .before .add-back .ensures) in
     let hd : List ℤ = toZ w64 (c .before .before .before .before .before .before .before .before .before .magnitude .result) ∷ toZ w64 (c .before .before .before .before .before .before .before .magnitude2 .result) ∷ [] in
-    let e = ap (λ k. answerCall hd (c .before .before .before .before .before .before .before .before .before .before .before .before .before .before .before .before .before .plan-column .last .1 .1 .1 .0) (c .before .before .before .before .before .before .before .before .before .before .before .before .add-back .last .1 .1 .0) k (a .out .now)) n ∙ answer-is w (r .last .0) (r .ensures) _ (zeros-empty 601) refl (c .before .before .before .before .before .before .before .before .before .before .before .before .before .before .before .before .before .plan-column .ensures) (c .before .before .before .before .before .before .before .before .before .before .before .before .add-back .last .1 .1 .0) rest hd (toZ-ofZ fa ∙ ap pos (el ∙ length-is w _ _ _ ch (s .pre .1))) (toZ-ofZ fb ∙ ap pos (em ∙ magnitude-is w _ _ _ ch (s .pre .1))) (a .out .now) in
+    let e = ap (λ k. answerCall hd (c .before .before .before .before .before .before .before .before .before .before .before .before .before .before .before .before .before .plan-column .last .1 .1 .1 .0) (c .before .before .before .before .before .before .before .before .before .before .before .before .add-back .last .1 .1 .0) k (a .out .now)) n ∙ answer-is w (r .last .0) (r .ensures) _ (s .pre .3) (s .pre .2) (c .before .before .before .before .before .before .before .before .before .before .before .before .before .before .before .before .before .plan-column .ensures) (c .before .before .before .before .before .before .before .before .before .before .before .before .add-back .last .1 .1 .0) rest hd (toZ-ofZ fa ∙ ap pos (el ∙ length-is w _ _ _ ch (s .pre .1))) (toZ-ofZ fb ∙ ap pos (em ∙ magnitude-is w _ _ _ ch (s .pre .1))) (a .out .now) in
     (c .before .before .write-answer .ensures .0 ∙ ap (λ o. o .buffer) e, c .before .before .write-answer .ensures .1 ∙ ap (λ o. o .answer) e)
 
 returns-2 : tie.Need-returns-2
@@ -124,20 +124,18 @@ answer-spec =
     accept-requires
     (λ c. search needs)
     place-rows-requires
-    (λ c. search needs)
     plan-column-requires
     months-of-requires
-    (λ c. search needs)
     add-back-requires
     (λ c κs. search needs)
     cast-a
     (λ c κs. search needs)
     cast-b
     (λ c. search needs)
-    (λ c. search needs)
     write-answer-requires
     (λ c. search needs)
     (λ c κs. search needs)
+    (λ c. search needs)
     (λ c. search needs)
     (λ c. search needs)
     (λ c. search needs)

@@ -87,27 +87,27 @@ part-answer-end-4 c =
 
 answer-requires : tie.Need-answer-requires
 answer-requires c κs =
-    let s = c .before .before .before .before .before .before .before .before .before .before .before .before .before .before .before .before .before .before .before .before .before .before .before .before in
+    let s = c .before .before .before .before .before .before .before .before .before .before .before .before .before .before .before .before .before .before .before .before .before .before .before .before .before in
     let a = s .args in
     let w = s .pre .0 in
-    let p = plan-read w _ _ (subst (ReadInto planForm (readText planForm (take (a .sheet .to - a .sheet .from) (drop (a .sheet .from) (a .input .now)))) (c .before .before .before .before .before .before .before .before .before .before .before .before .before .before .before .before .before .before .before .read-plan .last .1 .0)) (c .before .before .before .before .before .before .before .before .before .before .before .before .before .before .before .before .reading .given .1) (c .before .before .before .before .before .before .before .before .before .before .before .before .before .before .before .before .before .before .before .read-plan .ensures .0)) in
-    let t = sym (c .before .before .before .before .before .before .before .before .before .before .before .before .before .before .fits2 .ensures) ∙ c .before .before .before .before .before .before .before .before .before .before .before .before .before .if1 .taken in
+    let p = plan-read w _ _ (subst (ReadInto planForm (readText planForm (take (a .sheet .to - a .sheet .from) (drop (a .sheet .from) (a .input .now)))) (c .before .before .before .before .before .before .before .before .before .before .before .before .before .before .before .before .before .before .before .before .read-plan .last .1 .0)) (c .before .before .before .before .before .before .before .before .before .before .before .before .before .before .before .before .before .reading .given .1) (c .before .before .before .before .before .before .before .before .before .before .before .before .before .before .before .before .before .before .before .before .read-plan .ensures .0)) in
+    let t = sym (c .before .before .before .before .before .before .before .before .before .before .before .before .before .before .before .fits2 .ensures) ∙ c .before .before .before .before .before .before .before .before .before .before .before .before .before .before .if1 .taken in
     let e = length-take-le (a .sheet .factors - 0) (a .factors .now) (omega (arith, part-factors w t)) in
-    (record { plan = p .plan; standing = p .stands }, c .before .before .before .before .before .before .before .parties-ok .ensures, omega (arith, e, s .pre .2 (months-few w t)))
+    (record { plan = p .plan; standing = p .stands }, c .before .before .before .before .before .before .before .before .parties-ok .ensures, omega (arith, e, s .pre .2 (months-few w t)), s .pre .3, omega (arith, e, s .pre .4 (months-few w t)))
 
 same-length : tie.Need-same-length
-same-length c = c .before .before .before .before .answer .kept .0 ∙ c .before .before .before .before .before .before .before .before .before .before .before .before .before .before .before .before .before .before .before .before .before .before .before .before .read-plan .kept .1 .0
+same-length c = c .before .before .before .before .before .answer .kept .0 ∙ c .before .before .before .before .before .before .before .before .before .before .before .before .before .before .before .before .before .before .before .before .before .before .before .before .before .before .read-plan .kept .1 .0
 
 returns : tie.Need-returns
 returns c =
-    let s = c .before .before .before .before .before .before .before .before .before .before .before .before .before .before .before .before .before .before .before .before .before .before .before .before .before .before .before .before .before in
+    let s = c .before .before .before .before .before .before .before .before .before .before .before .before .before .before .before .before .before .before .before .before .before .before .before .before .before .before .before .before .before .before .before in
     let a = s .args in
     let w = s .pre .0 in
-    let t = sym (c .before .before .before .before .before .before .before .before .before .before .before .before .before .before .before .before .before .before .before .fits2 .ensures) ∙ c .before .before .before .before .before .before .before .before .before .before .before .before .before .before .before .before .before .before .if1 .taken in
-    let p = plan-read w _ _ (subst (ReadInto planForm (readText planForm (take (a .sheet .to - a .sheet .from) (drop (a .sheet .from) (a .input .now)))) (c .before .before .before .before .before .before .before .before .before .before .before .before .before .before .before .before .before .before .before .before .before .before .before .before .read-plan .last .1 .0)) (c .before .before .before .before .before .before .before .before .before .before .before .before .before .before .before .before .before .before .before .before .before .reading .given .1) (c .before .before .before .before .before .before .before .before .before .before .before .before .before .before .before .before .before .before .before .before .before .before .before .before .read-plan .ensures .0)) in
+    let t = sym (c .before .before .before .before .before .before .before .before .before .before .before .before .before .before .before .before .before .before .before .before .before .fits2 .ensures) ∙ c .before .before .before .before .before .before .before .before .before .before .before .before .before .before .before .before .before .before .before .before .if1 .taken in
+    let p = plan-read w _ _ (subst (ReadInto planForm (readText planForm (take (a .sheet .to - a .sheet .from) (drop (a .sheet .from) (a .input .now)))) (c .before .before .before .before .before .before .before .before .before .before .before .before .before .before .before .before .before .before .before .before .before .before .before .before .before .before .read-plan .last .1 .0)) (c .before .before .before .before .before .before .before .before .before .before .before .before .before .before .before .before .before .before .before .before .before .before .before .reading .given .1) (c .before .before .before .before .before .before .before .before .before .before .before .before .before .before .before .before .before .before .before .before .before .before .before .before .before .before .read-plan .ensures .0)) in
     let g = figures s in
-    let k = rw (toZ-ofZ (g .0), toZ-ofZ (g .1), toZ-ofZ (g .2), toZ-ofZ (g .3)) at (c .before .before .before .before .answer .ensures (p .plan) (p .stands)) in
-    let e = answer-is w t (c .before .before .before .before .before .before .before .before .before .before .before .before .before .before .before .before .before .settings-of .ensures) (p .plan) (p .is) (a .out .now) in
+    let k = rw (toZ-ofZ (g .0), toZ-ofZ (g .1), toZ-ofZ (g .2), toZ-ofZ (g .3)) at (c .before .before .before .before .before .answer .ensures (p .plan) (p .stands)) in
+    let e = answer-is w t (c .before .before .before .before .before .before .before .before .before .before .before .before .before .before .before .before .before .before .before .settings-of .ensures) (p .plan) (p .is) (a .out .now) in
     (k .0 ∙ ap (λ o. o .buffer) e, k .1 ∙ ap (λ o. o .answer) e)
 
 returns-2 : tie.Need-returns-2
@@ -156,6 +156,7 @@ answer-with-spec =
     (λ c. search needs)
     (λ c κs. search needs)
     same-length
+    (λ c. search needs)
     (λ c. search needs)
     (λ c. search needs)
     returns
