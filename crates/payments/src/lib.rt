@@ -143,7 +143,37 @@ fn payment_in(
     }
 }
 
-// A text of few bytes has few nodes, and a short table is cleared sooner: 96 rows, 192 or all 512.
+// A text of few bytes has few nodes, and a short table is cleared sooner: 48 rows, 96, 192 or all 512.
+fn small_payment(
+    text: &[u8],
+    days: &[i64],
+    span: Span,
+    factors: &[i64],
+    bounds: &[i64],
+    values: &[i64],
+    today: Month,
+    pair: Pair,
+    month: Month,
+) -> Paying
+    requires { ⌜ length (now text) ≤ 96 ⌝ }
+    ensures { λ r. ⌜ payingAnswer r ≡ paymentCall (now (text .entry))
+        (givenOf (now (days .entry)) (span .h) (span .f) (now (factors .entry)) (now (bounds .entry)) (now (values .entry))) (today .0) (pair .p) (pair .q) (month .0) ⌝ }
+{
+    let mut nodes = [0i64; 240];
+    payment_in(
+        text,
+        &mut nodes,
+        days,
+        span,
+        factors,
+        bounds,
+        values,
+        today,
+        pair,
+        month,
+    )
+}
+
 fn brief_payment(
     text: &[u8],
     days: &[i64],
@@ -252,6 +282,19 @@ pub fn payment(
 {
     let span = Span { h: h, f: f };
     let pair = Pair { p: p, q: q };
+    if text.len() <= 96 {
+        return small_payment(
+            text,
+            days,
+            span,
+            factors,
+            bounds,
+            values,
+            Month(today),
+            pair,
+            Month(month),
+        );
+    }
     if text.len() <= 192 {
         return brief_payment(
             text,
@@ -410,6 +453,38 @@ fn step_in(
     }
 }
 
+fn small_step(
+    text: &[u8],
+    days: &[i64],
+    span: Span,
+    factors: &[i64],
+    bounds: &[i64],
+    values: &[i64],
+    today: Month,
+    pair: Pair,
+    out: &mut [u8],
+) -> Stepping
+    requires { ⌜ length (now text) ≤ 96 ⌝ }
+    ensures { λ r. ⌜ (now (out .exit) ≡ stepCall (now (text .entry))
+        (givenOf (now (days .entry)) (span .h) (span .f) (now (factors .entry)) (now (bounds .entry)) (now (values .entry))) (today .0) (pair .p) (pair .q) (now (out .entry)) .buffer)
+        × (steppingAnswer r ≡ stepCall (now (text .entry))
+        (givenOf (now (days .entry)) (span .h) (span .f) (now (factors .entry)) (now (bounds .entry)) (now (values .entry))) (today .0) (pair .p) (pair .q) (now (out .entry)) .answer) ⌝ }
+{
+    let mut table = [0i64; 240];
+    step_in(
+        text,
+        &mut table,
+        days,
+        span,
+        factors,
+        bounds,
+        values,
+        today,
+        pair,
+        out,
+    )
+}
+
 fn brief_step(
     text: &[u8],
     days: &[i64],
@@ -528,6 +603,19 @@ pub fn step(
 {
     let span = Span { h: h, f: f };
     let parties = Pair { p: p, q: q };
+    if text.len() <= 96 {
+        return small_step(
+            text,
+            days,
+            span,
+            factors,
+            bounds,
+            values,
+            Month(today),
+            parties,
+            out,
+        );
+    }
     if text.len() <= 192 {
         return brief_step(
             text,

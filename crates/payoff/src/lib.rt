@@ -113,7 +113,16 @@ fn compile_in(text: &[u8], nodes: &mut [i64], out: &mut [u8]) -> Writing
     }
 }
 
-// A text of few bytes has few nodes, and a short table is cleared sooner: 96 rows, 192 or all 512.
+// A text of few bytes has few nodes, and a short table is cleared sooner: 48 rows, 96, 192 or all 512.
+fn small_compile(text: &[u8], out: &mut [u8]) -> Writing
+    requires { ⌜ length (now text) ≤ 96 ⌝ }
+    ensures { λ r. ⌜ (now (out .exit) ≡ compileCall (now (text .entry)) (now (out .entry)) .buffer)
+        × (writingAnswer r ≡ compileCall (now (text .entry)) (now (out .entry)) .answer) ⌝ }
+{
+    let mut nodes = [0i64; 240];
+    compile_in(text, &mut nodes, out)
+}
+
 fn brief_compile(text: &[u8], out: &mut [u8]) -> Writing
     requires { ⌜ length (now text) ≤ 192 ⌝ }
     ensures { λ r. ⌜ (now (out .exit) ≡ compileCall (now (text .entry)) (now (out .entry)) .buffer)
@@ -145,6 +154,9 @@ pub fn compile(text: &[u8], out: &mut [u8]) -> Writing
     ensures { λ r. ⌜ (now (out .exit) ≡ compileCall (now (text .entry)) (now (out .entry)) .buffer)
         × (writingAnswer r ≡ compileCall (now (text .entry)) (now (out .entry)) .answer) ⌝ }
 {
+    if text.len() <= 96 {
+        return small_compile(text, out);
+    }
     if text.len() <= 192 {
         return brief_compile(text, out);
     }
@@ -314,7 +326,35 @@ fn evaluate_in(
     }
 }
 
-// A text of few bytes has few nodes, and a short table is cleared sooner: 96 rows, 192 or all 512.
+// A text of few bytes has few nodes, and a short table is cleared sooner: 48 rows, 96, 192 or all 512.
+fn small_evaluate(
+    text: &[u8],
+    days: &[i64],
+    span: Span,
+    factors: &[i64],
+    bounds: &[i64],
+    values: &[i64],
+    month: Month,
+    pair: Pair,
+) -> Evaluating
+    requires { ⌜ length (now text) ≤ 96 ⌝ }
+    ensures { λ r. ⌜ evaluatingAnswer r ≡ evaluateCall (now (text .entry))
+        (givenOf (now (days .entry)) (span .h) (span .f) (now (factors .entry)) (now (bounds .entry)) (now (values .entry))) (pair .p) (pair .q) (month .0) ⌝ }
+{
+    let mut nodes = [0i64; 240];
+    evaluate_in(
+        text,
+        &mut nodes,
+        days,
+        span,
+        factors,
+        bounds,
+        values,
+        month,
+        pair,
+    )
+}
+
 fn brief_evaluate(
     text: &[u8],
     days: &[i64],
@@ -416,6 +456,18 @@ pub fn evaluate(
 {
     let span = Span { h: h, f: f };
     let pair = Pair { p: p, q: q };
+    if text.len() <= 96 {
+        return small_evaluate(
+            text,
+            days,
+            span,
+            factors,
+            bounds,
+            values,
+            Month(month),
+            pair,
+        );
+    }
     if text.len() <= 192 {
         return brief_evaluate(
             text,

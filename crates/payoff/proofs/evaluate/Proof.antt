@@ -3,37 +3,47 @@ use mir.Facts.{toZ-ofZ}
 use Rattle.payoff.proofs.evaluate.Statement.{statement}
 use Rattle.payoff.proofs.evaluate.Tie as tie
 
-brief-evaluate-requires : tie.Need-brief-evaluate-requires
-brief-evaluate-requires c κs = search needs
+small-evaluate-requires : tie.Need-small-evaluate-requires
+small-evaluate-requires c κs = search needs
 
 returns : tie.Need-returns
 returns c =
     let f = c .before .before .before .fits in
+    rw (toZ-ofZ (f .h), toZ-ofZ (f .f), toZ-ofZ (f .month), toZ-ofZ (f .p), toZ-ofZ (f .q)) at (c .small-evaluate .ensures)
+
+brief-evaluate-requires : tie.Need-brief-evaluate-requires
+brief-evaluate-requires c κs = search needs
+
+returns-2 : tie.Need-returns-2
+returns-2 c =
+    let f = c .before .before .before .before .fits in
     rw (toZ-ofZ (f .h), toZ-ofZ (f .f), toZ-ofZ (f .month), toZ-ofZ (f .p), toZ-ofZ (f .q)) at (c .brief-evaluate .ensures)
 
 short-evaluate-requires : tie.Need-short-evaluate-requires
 short-evaluate-requires c κs = search needs
 
-returns-2 : tie.Need-returns-2
-returns-2 c =
-    let f = c .before .before .before .before .fits in
+returns-3 : tie.Need-returns-3
+returns-3 c =
+    let f = c .before .before .before .before .before .fits in
     rw (toZ-ofZ (f .h), toZ-ofZ (f .f), toZ-ofZ (f .month), toZ-ofZ (f .p), toZ-ofZ (f .q)) at (c .short-evaluate .ensures)
 
 long-evaluate-requires : tie.Need-long-evaluate-requires
 long-evaluate-requires c κs = search needs
 
-returns-3 : tie.Need-returns-3
-returns-3 c =
-    let f = c .before .before .before .before .fits in
+returns-4 : tie.Need-returns-4
+returns-4 c =
+    let f = c .before .before .before .before .before .fits in
     rw (toZ-ofZ (f .h), toZ-ofZ (f .f), toZ-ofZ (f .month), toZ-ofZ (f .p), toZ-ofZ (f .q)) at (c .long-evaluate .ensures)
 
 pub evaluate-spec : {M : Type 1} → statement M
 evaluate-spec =
     tie.close
     (tie.spec
-    brief-evaluate-requires
+    small-evaluate-requires
     returns
-    short-evaluate-requires
+    brief-evaluate-requires
     returns-2
+    short-evaluate-requires
+    returns-3
     long-evaluate-requires
-    returns-3)
+    returns-4)
