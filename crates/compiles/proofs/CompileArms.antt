@@ -14,7 +14,7 @@ use Rattle.copies.specs.Appended.{Appended}
 use Rattle.copies.specs.Copied.{Copied}
 use Rattle.copies.specs.Plain.{plainLast, plainRows}
 use Rattle.language.specs.Payoff.Compile.{compilePlan, delayed, mapAmount, mapTest, offset}
-use Rattle.language.specs.Text.Classes.{aDelay, aMonth, aNumber}
+use Rattle.language.specs.Text.Classes.{aDelay, aMonth}
 use Rattle.language.specs.Text.Letters.{PayoffLetter, ofRoot, payoffForm, payoffRow, rowOf}
 use Rattle.language.specs.Text.Plans.{Written, payoffTrees}
 use Rattle.language.specs.Text.Reader.{end}

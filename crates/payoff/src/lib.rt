@@ -1,6 +1,6 @@
 // Payoffs: compiling, cutting and evaluating.
 ghost use mathlib.Core.Path.{_≡_};
-ghost use Prim.Native.Nat.{_*_, _≤_};
+ghost use Prim.Native.Nat.{_≤_};
 ghost use lib.ListN.{drop, length};
 ghost use mathlib.Core.Bool.{_&&_, _||_, false};
 ghost use mathlib.Core.List.{map};
