@@ -1,6 +1,6 @@
 // The answer of a sheet as text: counted first, then written.
 ghost use mathlib.Core.Path.{_≡_};
-ghost use Prim.Native.Nat.{_+_, _<_, _≤_};
+ghost use Prim.Native.Nat.{_*_, _+_, _<_, _≤_};
 ghost use lib.ListN.{length};
 ghost use Rattle.printing.specs.Lines.{answerCall, answerText, headText, monthText, monthsText, refusalCall, refusalText};
 ghost use Rattle.writer.specs.Answers.{writtenAnswer};
@@ -35,19 +35,21 @@ fn month_length(column: &[i64], rest: &[i64], m: usize) -> usize
     a + b + c + 3
 }
 
-// Writes a month's line.
+// Writes the line of month m, which is known as hundreds and what is over.
 fn put_month(
     pairs: &[u8; 200],
     column: &[i64],
     rest: &[i64],
     m: usize,
+    hundreds: u32,
+    over: u32,
     out: &mut [u8],
     at: usize,
 ) -> usize
-    requires { ⌜ (m < length (now column)) × (m < length (now rest)) × (m ≤ 600) × (at + length (monthText (now column) (now rest) m) ≤ length (now out)) × (now pairs ≡ allPairs) ⌝ }
+    requires { ⌜ (m < length (now column)) × (m < length (now rest)) × (m ≤ 600) × (at + length (monthText (now column) (now rest) m) ≤ length (now out)) × (now pairs ≡ allPairs) × (over < 100) × (m ≡ 100 * hundreds + over) ⌝ }
     ensures { λ r. ⌜ Put (now (out .entry)) (now (out .exit)) at r (monthText (now (column .entry)) (now (rest .entry)) m) ⌝ }
 {
-    let a = digits::put_to_four(pairs, m as u32, out, at);
+    let a = digits::put_hundreds(pairs, hundreds, over, out, at);
     let b = fields::put_field_by(pairs, column, m, out, a);
     let c = fields::put_field_by(pairs, rest, m, out, b);
     out[c] = b'\n';
@@ -82,9 +84,16 @@ fn put_months(
 {
     let mut place = at;
     let mut m = 0;
+    let mut hundreds = 0u32;
+    let mut over = 0u32;
     while m < months {
-        place = put_month(pairs, column, rest, m, out, place);
+        place = put_month(pairs, column, rest, m, hundreds, over, out, place);
         m += 1;
+        over += 1;
+        if over == 100 {
+            over = 0;
+            hundreds += 1;
+        }
     }
     place
 }

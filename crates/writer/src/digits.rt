@@ -1,7 +1,7 @@
 // Whole numbers as decimal text.
 ghost use mathlib.Core.Path.{_≡_};
 ghost use mathlib.Core.Bool.{true};
-ghost use Prim.Native.Nat.{_+_, _<_, _^_, _≤_};
+ghost use Prim.Native.Nat.{_*_, _+_, _<_, _^_, _≤_, ℕ};
 ghost use lib.IntN.{natAbs, pos};
 ghost use lib.ListN.{length};
 ghost use Rattle.language.specs.Text.Number.{between, printNat, printNumber};
@@ -108,6 +108,19 @@ pub fn put_to_four(pairs: &[u8; 200], n: u32, out: &mut [u8], at: usize) -> usiz
     } else {
         let next = put_to_two(n / 100, out, at);
         put_pair(pairs, n % 100, out, next)
+    }
+}
+
+// Writes the digits of a number below 1,000 that is known as hundreds and what is over: a count of lines needs no division.
+pub fn put_hundreds(pairs: &[u8; 200], hundreds: u32, over: u32, out: &mut [u8], at: usize) -> usize
+    requires { ⌜ (hundreds < 10) × (over < 100) × (at + length (printNat (100 * hundreds + over)) ≤ length (now out)) × (now pairs ≡ allPairs) ⌝ }
+    ensures { λ r. ⌜ ((n : ℕ) → n ≡ 100 * hundreds + over → Put (now (out .entry)) (now (out .exit)) at r (printNat n)) ⌝ }
+{
+    if hundreds == 0 {
+        put_to_two(over, out, at)
+    } else {
+        out[at] = 48 + hundreds as u8;
+        put_pair(pairs, over, out, at + 1)
     }
 }
 

@@ -15,19 +15,16 @@ use Rattle.writer.specs.Written.{slot}
 use Rattle.printing.proofs.put_month.Statement.{statement}
 use Rattle.printing.proofs.put_month.Tie as tie
 
-cast-put-to-four : tie.Need-cast-put-to-four
-cast-put-to-four c = search needs
-
-put-to-four-requires : tie.Need-put-to-four-requires
+put-hundreds-requires : tie.Need-put-hundreds-requires
 unfolding monthText
-put-to-four-requires c κs =
+put-hundreds-requires c κs =
     let s = c .before .before in
     let A = printNat (s .args .m) in
     let B = numberField (slot (s .args .column .now) (s .args .m)) in
     let C = numberField (slot (s .args .rest .now) (s .args .m)) in
     let o = s .args .out .now in
     let r : s .args .at + length (A ++ (B ++ (C ++ newLine))) ≤ length o = s .pre .3 in
-    (omega (arith, s .pre .2), first-room A B C o _ r, s .pre .4)
+    (omega (arith, s .pre .2, s .pre .6), s .pre .5, omega (arith, first-room A B C o _ r, ap (λ x. length (printNat x)) (s .pre .6)), s .pre .4)
 
 put-field-by-requires : tie.Need-put-field-by-requires
 unfolding monthText
@@ -38,9 +35,9 @@ put-field-by-requires c κs =
     let C = numberField (slot (s .args .rest .now) (s .args .m)) in
     let o = s .args .out .now in
     let r : s .args .at + length (A ++ (B ++ (C ++ newLine))) ≤ length o = s .pre .3 in
-    let l1 = later-room A B C o _ r (c .before .before .before .put-to-four .ensures) in
-    let o1 = c .before .before .before .put-to-four .last .1 .1 .0 in
-    let i1 = c .before .before .before .put-to-four .result in
+    let l1 = later-room A B C o _ r (c .before .before .before .put-hundreds .ensures (s .args .m) (s .pre .6)) in
+    let o1 = c .before .before .before .put-hundreds .last .1 .1 .1 .0 in
+    let i1 = c .before .before .before .put-hundreds .result in
     (s .pre .0, second-room B C o1 i1 l1, s .pre .4)
 
 put-field-by-requires-2 : tie.Need-put-field-by-requires-2
@@ -52,9 +49,9 @@ put-field-by-requires-2 c κs =
     let C = numberField (slot (s .args .rest .now) (s .args .m)) in
     let o = s .args .out .now in
     let r : s .args .at + length (A ++ (B ++ (C ++ newLine))) ≤ length o = s .pre .3 in
-    let l1 = later-room A B C o _ r (c .before .before .before .before .before .before .before .put-to-four .ensures) in
-    let o1 = c .before .before .before .before .before .before .before .put-to-four .last .1 .1 .0 in
-    let i1 = c .before .before .before .before .before .before .before .put-to-four .result in
+    let l1 = later-room A B C o _ r (c .before .before .before .before .before .before .before .put-hundreds .ensures (s .args .m) (s .pre .6)) in
+    let o1 = c .before .before .before .before .before .before .before .put-hundreds .last .1 .1 .1 .0 in
+    let i1 = c .before .before .before .before .before .before .before .put-hundreds .result in
     let l2 = rest-room B C o1 i1 l1 (c .before .before .before .put-field-by .ensures) in
     let o2 = c .before .before .before .put-field-by .last .1 .1 .1 .0 in
     let i2 = c .before .before .before .put-field-by .result in
@@ -69,9 +66,9 @@ slice-write-out c =
     let C = numberField (slot (s .args .rest .now) (s .args .m)) in
     let o = s .args .out .now in
     let r : s .args .at + length (A ++ (B ++ (C ++ newLine))) ≤ length o = s .pre .3 in
-    let l1 = later-room A B C o _ r (c .before .before .before .before .before .before .before .before .before .before .put-to-four .ensures) in
-    let o1 = c .before .before .before .before .before .before .before .before .before .before .put-to-four .last .1 .1 .0 in
-    let i1 = c .before .before .before .before .before .before .before .before .before .before .put-to-four .result in
+    let l1 = later-room A B C o _ r (c .before .before .before .before .before .before .before .before .before .before .put-hundreds .ensures (s .args .m) (s .pre .6)) in
+    let o1 = c .before .before .before .before .before .before .before .before .before .before .put-hundreds .last .1 .1 .1 .0 in
+    let i1 = c .before .before .before .before .before .before .before .before .before .before .put-hundreds .result in
     let l2 = rest-room B C o1 i1 l1 (c .before .before .before .before .before .before .put-field-by .ensures) in
     let o2 = c .before .before .before .before .before .before .put-field-by .last .1 .1 .1 .0 in
     let i2 = c .before .before .before .before .before .before .put-field-by .result in
@@ -86,9 +83,9 @@ add-result c =
     let C = numberField (slot (s .args .rest .now) (s .args .m)) in
     let o = s .args .out .now in
     let r : s .args .at + length (A ++ (B ++ (C ++ newLine))) ≤ length o = s .pre .3 in
-    let l1 = later-room A B C o _ r (c .before .before .before .before .before .before .before .before .before .before .put-to-four .ensures) in
-    let o1 = c .before .before .before .before .before .before .before .before .before .before .put-to-four .last .1 .1 .0 in
-    let i1 = c .before .before .before .before .before .before .before .before .before .before .put-to-four .result in
+    let l1 = later-room A B C o _ r (c .before .before .before .before .before .before .before .before .before .before .put-hundreds .ensures (s .args .m) (s .pre .6)) in
+    let o1 = c .before .before .before .before .before .before .before .before .before .before .put-hundreds .last .1 .1 .1 .0 in
+    let i1 = c .before .before .before .before .before .before .before .before .before .before .put-hundreds .result in
     let l2 = rest-room B C o1 i1 l1 (c .before .before .before .before .before .before .put-field-by .ensures) in
     let o2 = c .before .before .before .before .before .before .put-field-by .last .1 .1 .1 .0 in
     let i2 = c .before .before .before .before .before .before .put-field-by .result in
@@ -104,13 +101,13 @@ same-length c =
     let C = numberField (slot (s .args .rest .now) (s .args .m)) in
     let o = s .args .out .now in
     let r : s .args .at + length (A ++ (B ++ (C ++ newLine))) ≤ length o = s .pre .3 in
-    let l1 = later-room A B C o _ r (c .before .before .before .before .before .before .before .before .before .before .put-to-four .ensures) in
-    let o1 = c .before .before .before .before .before .before .before .before .before .before .put-to-four .last .1 .1 .0 in
-    let i1 = c .before .before .before .before .before .before .before .before .before .before .put-to-four .result in
+    let l1 = later-room A B C o _ r (c .before .before .before .before .before .before .before .before .before .before .put-hundreds .ensures (s .args .m) (s .pre .6)) in
+    let o1 = c .before .before .before .before .before .before .before .before .before .before .put-hundreds .last .1 .1 .1 .0 in
+    let i1 = c .before .before .before .before .before .before .before .before .before .before .put-hundreds .result in
     let l2 = rest-room B C o1 i1 l1 (c .before .before .before .before .before .before .put-field-by .ensures) in
     let o2 = c .before .before .before .before .before .before .put-field-by .last .1 .1 .1 .0 in
     let i2 = c .before .before .before .before .before .before .put-field-by .result in
-    kept (then (c .before .before .before .before .before .before .before .before .before .before .put-to-four .ensures) (then (c .before .before .before .before .before .before .put-field-by .ensures) (ended C o2 i2 l2 (c .before .before .put-field-by2 .ensures))))
+    kept (then (c .before .before .before .before .before .before .before .before .before .before .put-hundreds .ensures (s .args .m) (s .pre .6)) (then (c .before .before .before .before .before .before .put-field-by .ensures) (ended C o2 i2 l2 (c .before .before .put-field-by2 .ensures))))
 
 returns : tie.Need-returns
 unfolding monthText
@@ -121,20 +118,19 @@ returns c =
     let C = numberField (slot (s .args .rest .now) (s .args .m)) in
     let o = s .args .out .now in
     let r : s .args .at + length (A ++ (B ++ (C ++ newLine))) ≤ length o = s .pre .3 in
-    let l1 = later-room A B C o _ r (c .before .before .before .before .before .before .before .before .before .before .put-to-four .ensures) in
-    let o1 = c .before .before .before .before .before .before .before .before .before .before .put-to-four .last .1 .1 .0 in
-    let i1 = c .before .before .before .before .before .before .before .before .before .before .put-to-four .result in
+    let l1 = later-room A B C o _ r (c .before .before .before .before .before .before .before .before .before .before .put-hundreds .ensures (s .args .m) (s .pre .6)) in
+    let o1 = c .before .before .before .before .before .before .before .before .before .before .put-hundreds .last .1 .1 .1 .0 in
+    let i1 = c .before .before .before .before .before .before .before .before .before .before .put-hundreds .result in
     let l2 = rest-room B C o1 i1 l1 (c .before .before .before .before .before .before .put-field-by .ensures) in
     let o2 = c .before .before .before .before .before .before .put-field-by .last .1 .1 .1 .0 in
     let i2 = c .before .before .before .before .before .before .put-field-by .result in
-    then (c .before .before .before .before .before .before .before .before .before .before .put-to-four .ensures) (then (c .before .before .before .before .before .before .put-field-by .ensures) (ended C o2 i2 l2 (c .before .before .put-field-by2 .ensures)))
+    then (c .before .before .before .before .before .before .before .before .before .before .put-hundreds .ensures (s .args .m) (s .pre .6)) (then (c .before .before .before .before .before .before .put-field-by .ensures) (ended C o2 i2 l2 (c .before .before .put-field-by2 .ensures)))
 
 pub put-month-spec : {M : Type 1} → statement M
 put-month-spec =
     tie.close
     (tie.spec
-    cast-put-to-four
-    put-to-four-requires
+    put-hundreds-requires
     put-field-by-requires
     put-field-by-requires-2
     slice-write-out

@@ -1,8 +1,8 @@
-use Prim.Native.Nat.{_+_, _-_, _<_, _≤_}
+use Prim.Native.Nat.{_*_, _+_, _-_, _<_, _≤_}
 use borrow.Author.Needs.{needs}
 use lib.ListN.{length}
 use mathlib.Core.List.{_++_}
-use mathlib.Core.Path.{_∙_, ap, sym}
+use mathlib.Core.Path.{_≡_}
 use native.Mathlib.Omega.{arith}
 use Rattle.printing.proofs.MonthLines.{Printing, next-room, printing-ends, printing-on, printing-starts}
 use Rattle.writer.proofs.Puts.{kept}
@@ -10,35 +10,61 @@ use Rattle.printing.proofs.put_months.Statement.{statement}
 use Rattle.printing.proofs.put_months.Tie as tie
 
 abbrev Inv-loop : tie.InvT-loop
-Inv-loop pairs column rest months out₀ at place₀ m₀ out place m = Printing column rest months out₀ out at place m
+Inv-loop pairs column rest months out₀ at place₀ m₀ hundreds₀ over₀ out place m hundreds over = Printing column rest months out₀ out at place m × (over < 100) × (m ≡ 100 * hundreds + over)
 
 abbrev μ-loop : tie.MeasureT-loop
-μ-loop pairs column rest months out₀ at place₀ m₀ out place m = months - m
+μ-loop pairs column rest months out₀ at place₀ m₀ hundreds₀ over₀ out place m hundreds over = months - m
 
 loop-holds : tie.Need-loop-holds Inv-loop μ-loop
-loop-holds c = printing-starts _ _ _ _ _
+loop-holds c = (printing-starts _ _ _ _ _, omega arith, omega arith)
 
 put-month-requires : tie.Need-put-month-requires Inv-loop μ-loop
 put-month-requires c κs =
     let s = c .before .before .before .before in
-    (omega (arith, s .pre .0, c .before .loop-test .taken), omega (arith, s .pre .1, c .before .loop-test .taken), omega (arith, s .pre .2, c .before .loop-test .taken), next-room _ _ (c .before .before .loop .inv) (c .before .loop-test .taken) (s .pre .3), s .pre .4)
+    let l = c .before .before .loop .inv in (
+      omega (arith, s .pre .0, c .before .loop-test .taken),
+      omega (arith, s .pre .1, c .before .loop-test .taken),
+      omega (arith, s .pre .2, c .before .loop-test .taken),
+      next-room _ _ (l .0) (c .before .loop-test .taken) (s .pre .3),
+      s .pre .4,
+      l .1,
+      l .2,
+    )
 
 add-m : tie.Need-add-m Inv-loop μ-loop
 add-m c =
     let s = c .before .before .before .before .before .before .before in
     record { fits = omega (arith, s .pre .2, c .before .before .before .before .loop-test .taken) }
 
+add-over : tie.Need-add-over Inv-loop μ-loop
+add-over c = omega (arith, c .before .before .before .before .before .loop .inv .1)
+
+add-hundreds : tie.Need-add-hundreds Inv-loop μ-loop
+add-hundreds c =
+    let s = c .before .before .before .before .before .before .before .before in
+    omega (arith, s .pre .2, c .before .before .before .before .before .loop-test .taken, c .before .before .before .before .before .before .loop .inv .2)
+
 loop-less : tie.Need-loop-less Inv-loop μ-loop
-loop-less c = omega (arith, c .before .before .before .before .loop-test .taken)
+loop-less c = omega (arith, c .before .before .before .before .before .loop-test .taken)
 
 loop-again : tie.Need-loop-again Inv-loop μ-loop
-loop-again c = printing-on _ _ (c .before .before .before .before .before .loop .inv) (c .before .before .before .before .loop-test .taken) (c .before .before .put-month .ensures)
+loop-again c =
+    let l = c .before .before .before .before .before .before .loop .inv in
+    (printing-on _ _ (l .0) (c .before .before .before .before .before .loop-test .taken) (c .before .before .before .put-month .ensures), omega arith, omega (arith, l .2, c .if1 .taken))
+
+loop-less-2 : tie.Need-loop-less-2 Inv-loop μ-loop
+loop-less-2 c = omega (arith, c .before .before .before .before .before .loop-test .taken)
+
+loop-again-2 : tie.Need-loop-again-2 Inv-loop μ-loop
+loop-again-2 c =
+    let l = c .before .before .before .before .before .before .loop .inv in
+    (printing-on _ _ (l .0) (c .before .before .before .before .before .loop-test .taken) (c .before .before .before .put-month .ensures), omega (arith, l .1, c .if1 .left), omega (arith, l .2))
 
 same-length : tie.Need-same-length Inv-loop μ-loop
-same-length c = kept (c .before .loop .inv .put)
+same-length c = kept (c .before .loop .inv .0 .put)
 
 returns : tie.Need-returns Inv-loop μ-loop
-returns c = printing-ends _ _ (c .before .loop .inv) (omega (arith, c .loop-test .left))
+returns c = printing-ends _ _ (c .before .loop .inv .0) (omega (arith, c .loop-test .left))
 
 pub put-months-spec : {M : Type 1} → statement M
 put-months-spec =
@@ -49,7 +75,11 @@ put-months-spec =
     loop-holds
     put-month-requires
     add-m
+    add-over
+    add-hundreds
     loop-less
     loop-again
+    loop-less-2
+    loop-again-2
     same-length
     returns)
