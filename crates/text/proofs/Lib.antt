@@ -15,3 +15,4 @@ pub mod Nesting
 pub mod NestingLaws
 pub mod WholeLaws
 pub mod TextLaws
+pub mod SettingBytes

@@ -12,3 +12,4 @@ pub mod Trees
 pub mod Rows
 pub mod Packed
 pub mod Whole
+pub mod Opens

@@ -11,6 +11,7 @@ ghost use Rattle.text.specs.Room.{Roomy};
 mod fields;
 mod letters;
 pub mod numbers;
+pub mod opens;
 mod quick;
 mod settings;
 mod slots;
