@@ -26,9 +26,9 @@ use Rattle.nodes.specs.Stands.{PayoffStands}
 use Rattle.nodes.specs.Table.{natOf}
 use Rattle.payoff.proofs.FilledRanges.{filled-range}
 use Rattle.payoff.proofs.Opens.{none-open}
+use Rattle.text.specs.Opens.{opens}
 use Rattle.payoff.proofs.TableFacts.{month-known}
 use Rattle.payoff.specs.Evaluating.{EvaluateIs, Standing, Stands, evaluatingAnswer, givenOf}
-use Rattle.payoff.specs.Opens.{opens}
 use Rattle.payoff.specs.declared.Evaluating.{Evaluating}
 use Rattle.payoff.specs.declared.Evaluating.the-variants.{Refused}
 use Rattle.settling.proofs.FilledFound.{filled-found}

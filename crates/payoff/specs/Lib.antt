@@ -3,4 +3,3 @@ pub mod Answers
 pub mod Compiling
 pub mod Cut
 pub mod Evaluating
-pub mod Opens

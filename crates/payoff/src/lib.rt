@@ -16,7 +16,6 @@ ghost use Rattle.payoff.specs.Answers.{writingAnswer};
 ghost use Rattle.payoff.specs.Compiling.{PlanRows};
 ghost use Rattle.payoff.specs.Cut.{cutByte};
 ghost use Rattle.payoff.specs.Evaluating.{EvaluateIs, Stands, evaluatingAnswer, givenOf};
-ghost use Rattle.payoff.specs.Opens.{opens};
 ghost use Rattle.pays.specs.Parties.{PairIn};
 ghost use Rattle.settling.specs.Settle.{Settled};
 ghost use Rattle.tables.specs.Given.{tableOf};
@@ -189,34 +188,6 @@ fn caller_ok(span: Span, month: Month, pair: Pair) -> bool
     tables::month_ok(span.f, month.0) & (tables::party_ok(pair.p) & tables::party_ok(pair.q))
 }
 
-// Whether one of the bytes from one on up to another is a `P`.
-fn part_opens(text: &[u8], from: usize, to: usize) -> bool
-    requires { ⌜ (from ≤ to) × (to ≤ length (now text)) ⌝ }
-    ensures { λ r. ⌜ opens (drop from (now (text .entry))) ≡ r || opens (drop to (now (text .entry))) ⌝ }
-{
-    let mut found = false;
-    let mut i = from;
-    while i < to {
-        found = found | (text[i] == b'P');
-        i += 1;
-    }
-    found
-}
-
-// Whether a `P` stands in a text, in parts, so that a long text with settings is not looked through to its end.
-fn has_open(text: &[u8]) -> bool
-    ensures { λ r. ⌜ r ≡ opens (now (text .entry)) ⌝ }
-{
-    let mut at = 0;
-    while 256 <= text.len() - at {
-        if part_opens(text, at, at + 256) {
-            return true;
-        }
-        at += 256;
-    }
-    part_opens(text, at, text.len())
-}
-
 // What the payoff in the table's first row is worth: no month is waited there.
 fn worth_of(
     nodes: &[i64],
@@ -320,7 +291,7 @@ fn evaluate_in(
             values,
             month,
             pair,
-            has_open(text),
+            text::opens::has_open(text),
         ),
         Reading::Refused(refusal) => Evaluating::Refused(refusal),
     }
