@@ -1,2 +1,3 @@
 -- What the calls on payments answer.
 pub mod Answers
+pub mod Waits

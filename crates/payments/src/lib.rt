@@ -38,6 +38,8 @@ use text::Reading;
 use text::Refusal;
 use writer::Written;
 
+mod waits;
+
 pub enum Paying {
     Pays(Pence),
     Refused(Refusal),
