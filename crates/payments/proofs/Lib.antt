@@ -7,3 +7,5 @@ pub mod Shortened
 pub mod StepPlaced
 pub mod StepTexts
 pub mod Texts
+pub mod WaitReady
+pub mod Waiting
