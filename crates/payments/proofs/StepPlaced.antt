@@ -1,8 +1,8 @@
 -- What the step of an accepted plan pays today and writes, from the table in which its index readings are resolved.
-use Prim.Native.Nat.{_*_, _≤_, ℕ}
-use lib.IntN.{natAbs, ℤ}
+use Prim.Native.Nat.{_*_, _+_, _<_, _≤_, ℕ}
+use lib.IntN.{natAbs, pos, ℤ}
 use lib.ListN.{drop, length}
-use mathlib.Core.Bool.{Bool, true}
+use mathlib.Core.Bool.{Bool, _&&_, not, true}
 use mathlib.Core.List.{List}
 use mathlib.Core.Path.{_∙_, _≡_, ap, ap₂, refl, subst, sym}
 use native.Mathlib.Nat.{le-trans, zero-add}
@@ -18,9 +18,10 @@ use Rattle.integers.specs.declared.Pence.{Pence}
 use Rattle.language.proofs.OneText.{texts}
 use Rattle.language.proofs.Rules.Tables.{bound-small, rules-of, value-bounded}
 use Rattle.language.proofs.Text.Form.{formed-map, formed-step}
+use Rattle.language.proofs.Truth.{and-e}
 use Rattle.language.specs.Answer.{got, refused}
 use Rattle.language.specs.Calls.{acceptPlan, intoBuffer, lookupOf, pairOk, signOf}
-use Rattle.language.specs.Limits.{maxAmount, maxNodes, planBytes}
+use Rattle.language.specs.Limits.{maxAmount, maxMonths, maxNodes, planBytes}
 use Rattle.language.specs.Payments.Pays.{pays}
 use Rattle.language.specs.Payments.Step.{step}
 use Rattle.language.specs.Rules.Accepted.{readsOf}
@@ -28,6 +29,7 @@ use Rattle.language.specs.Rules.Settings.{closed, fill}
 use Rattle.language.specs.Rules.Table.{Table, settingAt, valueAt}
 use Rattle.language.specs.Text.Form.{Formed, delayInForm, filledInForm}
 use Rattle.language.specs.Text.Letters.{planForm}
+use Rattle.language.specs.Text.Number.{printNat}
 use Rattle.language.specs.Text.Plans.{planTrees, printPlan}
 use Rattle.language.specs.Text.Reader.{end}
 use Rattle.language.specs.Text.Trees.{Delay, Plan, months}
@@ -38,9 +40,12 @@ use Rattle.nodes.specs.Found.{planAt}
 use Rattle.nodes.specs.Pass.{allRows, mapRows}
 use Rattle.nodes.specs.Rows.{countOf}
 use Rattle.nodes.specs.Stands.{PlanStands}
-use Rattle.nodes.specs.Table.{natOf}
+use Rattle.nodes.specs.Table.{RowIn, natOf}
 use Rattle.payments.proofs.Admitted.{Admitted, admitted, refusing}
+use Rattle.payments.proofs.WaitReady.{not-true, root-test, waits-on}
+use Rattle.payments.proofs.Waiting.{WaitsOn}
 use Rattle.payments.specs.Answers.{steppedBy, steppingAnswer}
+use Rattle.payments.specs.Waits.{RootTest, rootWaits, sooner, waitCall}
 use Rattle.payments.specs.declared.Stepping.the-variants.{Refused, Stepped}
 use Rattle.pays.proofs.Asked.{pair-in, today-in}
 use Rattle.pays.proofs.FinePlans.{accepted-fine}
@@ -58,17 +63,20 @@ use Rattle.rules.specs.Standing.{Standing}
 use Rattle.rules.specs.declared.Checking.the-variants as checking
 use Rattle.rules.specs.declared.Checking.the-variants.{Accepted}
 use Rattle.rules.specs.declared.Checking.{Checking}
+use Rattle.steps.proofs.StepReady.{early, row-in}
 use Rattle.steps.specs.Ready.{Ready}
 use Rattle.tables.proofs.Spans.{span-holds}
 use Rattle.tables.specs.Given.{tableOf}
 use Rattle.tables.specs.Lookup.{readTable}
+use Rattle.text.proofs.SettingBytes.{none-open}
+use Rattle.text.specs.Opens.{opens}
 use Rattle.text.specs.Refusals.{numberOf}
 use Rattle.text.specs.declared.Refusal.the-variants.{NoRoom}
 use Rattle.text.specs.declared.Refusal.{Refusal}
 use Rattle.writer.proofs.Plans.{plan-says}
 use Rattle.writer.proofs.Values.{answerWith, into-answer, into-buffer}
 use Rattle.writer.specs.Answers.{writeCall, writtenAnswer}
-use Rattle.writer.specs.Written.{written}
+use Rattle.writer.specs.Written.{slot, written}
 use Rattle.writer.specs.declared.Written.the-variants as written
 use Rattle.writer.specs.declared.Written.the-variants.{Bytes}
 use Rattle.writer.specs.declared.Written.{Written}
@@ -178,6 +186,10 @@ module _ {days : List ℤ} {h f : ℤ} {factors bounds values : List ℤ} {today
   unfolding valueAt
   same-step = ap (λ r. step (lookupOf t) r y) (sym same-today)
 
+  same-pays : pays (lookupOf (readTable h f bounds values)) (signOf p q) y (natOf today) (natOf today) ≡ paysToday
+  unfolding valueAt
+  same-pays = ap (λ r. pays (lookupOf t) (signOf p q) y r r) (sym same-today)
+
   pub pence-are : (placed : List ℤ) → placed ≡ mapRows (placeRow h f) count after → {v : ℤ} → v ≡ pays (flat values) (signOf p q) (planAt natOf 32 placed 0) (natOf today) (natOf today) → v ≡ paysToday
   pence-are placed e k =
       k ∙ ap (λ z. pays (flat values) (signOf p q) z (natOf today) (natOf today)) (found placed e .is)
@@ -199,6 +211,51 @@ module _ {days : List ℤ} {h f : ℤ} {factors bounds values : List ℤ} {today
 
       pub answer-is : {v : ℤ} → v ≡ paysToday → (r : Written) → writtenAnswer r ≡ writeCall n out buffer .answer → answerWith v r ≡ intoBuffer buffer (steppedBy (givenOf days h f factors bounds values) today p q x) .answer
       answer-is paid r d = ap (λ u. answerWith u r) paid ∙ into-answer paysToday buffer textOf n out text-is r d ∙ ap (λ o. intoBuffer buffer o .answer) (sym by-rules)
+
+  -- ---- a root that goes on waiting
+  module _ (placed : List ℤ) (e : placed ≡ mapRows (placeRow h f) count after) where
+    early-is : natOf today ≤ maxMonths
+    early-is = early today-is
+
+    pub root-row : RowIn placed 0
+    root-row = row-in (ready placed e)
+
+    pub test-fine : RootTest values (natOf today) placed
+    test-fine = root-test (ready placed e) early-is
+
+    module _ (text : List ℕ) (one : text ≡ printPlan x) (k : rootWaits values (natOf today) placed && not (opens text) ≡ true) where
+      abbrev delay : ℕ
+      delay = natAbs (slot placed 1)
+
+      on : WaitsOn (lookupOf (readTable h f bounds values)) (signOf p q) (natOf today) y delay
+      unfolding ready
+      on = waits-on (ready placed e) early-is (signOf p q) (and-e (rootWaits values (natOf today) placed) (not (opens text)) k .0)
+
+      -- no setting was filled
+      same-text : text ≡ printPlan (closed y)
+      same-text = one ∙ ap printPlan (sym (none-open (settingAt days) x (ap opens (sym one) ∙ not-true (opens text) (and-e (rootWaits values (natOf today) placed) (not (opens text)) k .1))))
+
+      pub delay-left : 0 < delay
+      delay-left = on .left
+
+      pub text-long : 2 + length (printNat delay) ≤ length text
+      text-long = subst (λ s. 2 + length (printNat delay) ≤ length s) (sym same-text) (on .long)
+
+      pub text-in : length text ≤ planBytes
+      text-in = subst (λ s. length s ≤ planBytes) (sym one) (texts .plans .short x (w .stood .formed))
+
+      tomorrow-text : textOf ≡ sooner delay text
+      tomorrow-text = ap (λ z. printPlan (closed z)) (sym same-step) ∙ on .text ∙ ap (sooner delay) (sym same-text)
+
+      none-paid : paysToday ≡ pos 0
+      none-paid = sym same-pays ∙ on .paid
+
+      pub wait-is : (buffer : List ℕ) {d : ℕ} → d ≡ delay → waitCall d text buffer ≡ intoBuffer buffer (steppedBy (givenOf days h f factors bounds values) today p q x)
+      unfolding waitCall
+      wait-is buffer {d} ed =
+          ap (λ n. intoBuffer buffer (got (record { value = pos 0; text = sooner n text }))) ed
+          ∙ ap₂ (λ v s. intoBuffer buffer (got (record { value = v; text = s }))) (sym none-paid) (sym tomorrow-text)
+          ∙ ap (intoBuffer buffer) (sym by-rules)
 
 -- ---- the answers of the code
 

@@ -25,7 +25,7 @@ use Rattle.steps.specs.Ready.{Ready}
 use Rattle.tables.specs.Lookup.{readTable}
 use Rattle.writer.specs.Written.{slot}
 
-not-true : (b : Bool) → not b ≡ true → b ≡ false
+pub not-true : (b : Bool) → not b ≡ true → b ≡ false
 not-true true e = absurd (true≢false (sym e))
 not-true false e = refl
 

@@ -13,7 +13,7 @@ ghost use Rattle.language.specs.Payments.Step.{step};
 ghost use Rattle.language.specs.Rules.Settings.{closed};
 ghost use Rattle.language.specs.Text.Letters.{planForm};
 ghost use Rattle.language.specs.Text.Number.{between};
-ghost use Rattle.language.specs.Text.Plans.{planTrees};
+ghost use Rattle.language.specs.Text.Plans.{planTrees, printPlan};
 ghost use Rattle.language.specs.Text.Reader.{end};
 ghost use Rattle.language.specs.Text.Trees.{Delay, Plan};
 ghost use Rattle.nodes.specs.Found.{planAt};
@@ -37,6 +37,7 @@ use tables::Span;
 use text::Reading;
 use text::Refusal;
 use writer::Written;
+use writer::digits;
 
 mod waits;
 
@@ -360,8 +361,10 @@ fn step_plan(
     steps::step_plan(nodes, &values, &bounds, span, today, pair, 0, 0, count, 32)
 }
 
-// The step of a plan that was read: accepted first, then what it pays today and, in the same table, the plan for tomorrow.
+// The step of a plan that was read: accepted first, then what it pays today and, in the same table, the plan for tomorrow. Where only
+// the root's delay falls, the text is copied.
 pub fn stepped(
+    text: &[u8],
     nodes: &mut [i64],
     count: usize,
     days: &[i64],
@@ -374,7 +377,7 @@ pub fn stepped(
     asked: bool,
     out: &mut [u8],
 ) -> Stepping
-    requires { ⌜ Stands (now nodes) count × (asked ≡ pairOk (pair .p) (pair .q)) ⌝ }
+    requires { ⌜ Stands (now nodes) count × (asked ≡ pairOk (pair .p) (pair .q)) × ((x : Plan Delay) → Standing (now nodes) count x → now text ≡ printPlan x) ⌝ }
     ensures { λ r. ⌜ ((x : Plan Delay) → Standing (now (nodes .entry)) count x
         → (now (out .exit) ≡ intoBuffer (now (out .entry)) (steppedBy
         (givenOf (now (days .entry)) (span .h) (span .f) (now (factors .entry)) (now (bounds .entry)) (now (values .entry)))
@@ -397,6 +400,10 @@ pub fn stepped(
     match checking {
         Checking::Accepted(length, magnitude) => {
             places::place_rows(nodes, count, span);
+            if waits::text_waits(text, nodes, values, today) {
+                let d = digits::magnitude(nodes, 1);
+                return waits::shorter_wait(text, d, out);
+            }
             let answer = step_plan(nodes, values, bounds, span, today, pair, count);
             let pence = answer.pence;
             let written = writer::write_text(nodes, answer.next, 8_704, out);
@@ -439,6 +446,7 @@ fn step_in(
     let reading = text::read_plan(text, nodes);
     match reading {
         Reading::Nodes(count) => stepped(
+            text,
             nodes,
             count,
             days,

@@ -2,7 +2,7 @@ use borrow.Author.Needs.{needs}
 use mathlib.Core.Path.{_∙_, ap, subst}
 use Rattle.language.specs.Text.Letters.{planForm}
 use Rattle.language.specs.Text.Reader.{readText}
-use Rattle.payments.proofs.StepTexts.{plan-read, text-keeps, text-refusal}
+use Rattle.payments.proofs.StepTexts.{plan-read, text-is, text-keeps, text-refusal}
 use Rattle.payments.proofs.step_in.Statement.{statement}
 use Rattle.payments.proofs.step_in.Tie as tie
 use Rattle.rules.proofs.Checks.{read-stands}
@@ -22,8 +22,8 @@ stepped-requires : tie.Need-stepped-requires
 stepped-requires c κs =
     let a = c .before .before .before .before .before .before .before .before .before .before .before .args in
     let r = c .before .before .before .before .before .before .read-plan in
-    let s = read-stands (a .text .now) _ _ (subst (ReadInto planForm (readText planForm (a .text .now)) (r .last .1 .0)) (c .before .before .before .reading .given .1) (r .ensures .0)) in
-    (s, c .before .before .before .before .before .before .before .before .parties-ok .ensures)
+    let s = subst (ReadInto planForm (readText planForm (a .text .now)) (r .last .1 .0)) (c .before .before .before .reading .given .1) (r .ensures .0) in
+    (read-stands (a .text .now) _ _ s, c .before .before .before .before .before .before .before .before .parties-ok .ensures, text-is (a .text .now) _ _ s)
 
 enum-known-reading-2 : tie.Need-enum-known-reading-2
 enum-known-reading-2 c = search needs
