@@ -14,6 +14,7 @@ use Rattle.payments.specs.Answers.{steppingAnswer}
 use Rattle.payments.specs.Waits.{sooner, waitCall}
 use Rattle.payments.specs.declared.Stepping.the-variants.{Refused, Stepped}
 use Rattle.text.specs.declared.Refusal.the-variants.{NoRoom}
+use Rattle.writer.proofs.Decimal.{digits-most}
 use Rattle.writer.proofs.Puts.{kept, pair, said, then}
 use Rattle.writer.specs.Put.{Put}
 
@@ -26,6 +27,9 @@ first-two : (text : List ℕ) → 2 ≤ length text → getD text 0 0 ∷ getD t
 first-two [] h = absurd (omega arith)
 first-two (a ∷ []) h = absurd (omega arith)
 first-two (a ∷ b ∷ r) h = refl
+
+pub few-digits : (d : ℕ) {n : ℕ} → n ≡ length (printNat d) → n ≤ 20
+few-digits d e = omega (arith, e, digits-most d)
 
 module _ (text : List ℕ) (d : ℕ) (long : 2 + length (printNat d) ≤ length text) (buffer : List ℕ) {n m : ℕ} (en : n ≡ length (printNat d)) (em : m ≡ length (printNat (d - 1))) where
   sooner-length : length (sooner d text) ≡ 2 + m + (length text - (2 + n))

@@ -1,9 +1,7 @@
-use Prim.Native.Nat.{_-_}
 use lib.ListN.{length-set}
 use mathlib.Core.Path.{refl}
 use native.Mathlib.Omega.{arith}
-use Rattle.payments.proofs.Shortened.{digits-room, no-room, rest-room, same-size, whole}
-use Rattle.writer.proofs.Decimal.{digits-most}
+use Rattle.payments.proofs.Shortened.{digits-room, few-digits, no-room, rest-room, same-size, whole}
 use borrow.Author.Needs.{needs}
 use Rattle.payments.proofs.waits.shorter_wait.Statement.{statement}
 use Rattle.payments.proofs.waits.shorter_wait.Tie as tie
@@ -21,13 +19,13 @@ digit-count-requires-2 : tie.Need-digit-count-requires-2
 digit-count-requires-2 c κs = search needs
 
 add-need : tie.Need-add-need
-add-need c = record { fits = omega (arith, c .digit-count2 .ensures, digits-most (c .before .before .before .before .args .d - 1)) }
+add-need c = record { fits = omega (arith, few-digits _ (c .digit-count2 .ensures)) }
 
 sub-need : tie.Need-sub-need
 sub-need c = search needs
 
 add-need-2 : tie.Need-add-need-2
-add-need-2 c = record { fits = omega (arith, c .before .before .before .before .pre .3, c .digit-count2 .ensures, digits-most (c .before .before .before .before .args .d - 1)) }
+add-need-2 c = record { fits = omega (arith, c .before .before .before .before .pre .3, few-digits _ (c .digit-count2 .ensures)) }
 
 returns : tie.Need-returns
 returns c =
