@@ -2,7 +2,7 @@
 use Prim.Native.Nat.{_≤_, ℕ}
 use lib.IntN.{natAbs, pos, ℤ}
 use lib.Signed.{leZ}
-use mathlib.Core.Bool.{Bool, _&&_, false, not, true, true≢false}
+use mathlib.Core.Bool.{Bool, false, not, true, true≢false}
 use mathlib.Core.List.{List}
 use mathlib.Core.Path.{_∙_, _≡_, ap, refl, subst, sym}
 use Rattle.amounts.specs.Flat.{flat}
@@ -12,7 +12,6 @@ use Rattle.language.specs.Calls.{lookupOf}
 use Rattle.language.specs.Limits.{maxMonths, maxNodes}
 use Rattle.language.specs.Payments.Amounts.{holds}
 use Rattle.language.specs.Payments.Pays.{Sign}
-use Rattle.language.specs.Text.Trees.{later, within}
 use Rattle.nodes.specs.Found.{offsetOf, testAt}
 use Rattle.nodes.specs.Letters.{planLetter}
 use Rattle.nodes.specs.Table.{natOf, slotAt}

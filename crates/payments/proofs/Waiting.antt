@@ -1,7 +1,7 @@
 -- A plan whose root goes on waiting: what it pays today, and its text for tomorrow.
 use Prim.Native.Nat.{_+_, _-_, _<_, _≤_, suc, zero, ℕ}
 use lib.IntN.{pos, ℤ}
-use lib.ListN.{drop, length, length-append, take}
+use lib.ListN.{length, length-append}
 use lib.Seq.{drop-at}
 use mathlib.Core.Bool.{cond, false}
 use mathlib.Core.List.{List, [], _++_, _∷_}

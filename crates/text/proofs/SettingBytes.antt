@@ -8,7 +8,7 @@ use mathlib.Core.List.{List, [], _++_, _∷_}
 use mathlib.Core.Path.{_∙_, _≡_, ap, refl, sym}
 use native.Mathlib.Numerals.{add-one}
 use Rattle.language.specs.Rules.Settings.{closed, delayOf, fill, mapPlan}
-use Rattle.language.specs.Text.Classes.{Field, aDelay, aNumber, printDelay, printField, printSetting}
+use Rattle.language.specs.Text.Classes.{Field, aNumber, printDelay, printField, printSetting}
 use Rattle.language.specs.Text.Fields.{behind, joinWith}
 use Rattle.language.specs.Text.Letters.{Form, Letter, PlanLetter, planForm}
 use Rattle.language.specs.Text.Plans.{planTrees, printPlan}

@@ -1,5 +1,4 @@
 use Prim.Native.Nat.{_-_}
-use lib.ListN.{length}
 use native.Mathlib.Omega.{arith}
 use Rattle.payments.proofs.RestPut.{Copied, all-copied, none-copied, one-copied, same-size}
 use Rattle.payments.proofs.waits.put_rest.Statement.{statement}
