@@ -76,10 +76,6 @@ module _ (t : Table) (a z : ℕ) (bound : ℕ → ℕ) where
         (plan-limit bound p) (plan-limit bound q) (h .magnitude) (k .magnitude) ej;
   }
 
-  -- another way to write the months
-  pub months-given : {b y : ℕ} {x : Plan ℕ} {m : Measures} → a ≡ b → z ≡ y → MeasuresOf t a z bound x m → MeasuresOf t b y bound x m
-  months-given {b} {y} {x} {m} ea ez h = subst (λ w. MeasuresOf t b w bound x m) ez (subst (λ w. MeasuresOf t w z bound x m) ea h)
-
   pub measures-first : {p : Plan ℕ} {x : Measures} → Addable x → MeasuresOf t a z bound p x → x .first ≤ neverMonth
   measures-first {p} k h = omega (arith, h .first, first-most (firstOf p) (few k h))
 

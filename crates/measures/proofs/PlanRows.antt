@@ -1,8 +1,8 @@
 -- The rows of the amount of an `S` and of the test of a `W`: they stand behind the node, and give what the amount or test gives.
 use Prim.Native.Nat.{_*_, _+_, _-_, _≤_, ℕ}
-use Rattle.integers.specs.declared.Month.{Month}
 use Rattle.language.specs.Limits.{maxAmount, maxNodes}
 use Rattle.language.specs.Rules.Measures.{latestOf, latestOfTest}
+use Rattle.language.specs.Rules.Table.{Table}
 use Rattle.language.specs.Rules.Tests.{amountReads, testReads, testSmall}
 use Rattle.measures.proofs.Latests.{amount-latest, test-latest}
 use Rattle.measures.proofs.Plans.{plan-room, scale-block, scale-ready, within-block, within-ready}
@@ -11,13 +11,12 @@ use Rattle.measures.proofs.RowSums.{amount-summed, test-summed}
 use Rattle.measures.specs.Magnitudes.{measuredAmount}
 use Rattle.measures.specs.Ready.{PlanReady}
 use Rattle.measures.specs.Rows.{rowsLatest, rowsMagnitude, rowsRead}
-use Rattle.measures.specs.Spans.{InReach, tableOf, windowOf}
+use Rattle.measures.specs.Spans.{Seen, windowOf}
 use Rattle.measures.specs.Timing.{latestMonth}
-use Rattle.measures.specs.declared.reads.Reach.{Reach}
 use Rattle.measures.specs.declared.reads.Window.{Window}
 use Rattle.nodes.specs.Found.{amountAt, offsetOf, testAt}
 use Rattle.nodes.specs.Letters.{planLetter}
-use Rattle.nodes.specs.Table.{linkAt, natOf, slotAt}
+use Rattle.nodes.specs.Table.{linkAt, slotAt}
 use Rattle.nodes.specs.declared.PlanLetter.the-variants.{Scale, Within}
 use Rattle.nodes.specs.declared.PlanLetter.{PlanLetter}
 use lib.IntN.{ℤ}
@@ -52,13 +51,13 @@ module _ {left at : ℕ} {nodes : List ℤ} (h : PlanReady left nodes at) {l : P
         ek ∙ ap (λ q. latestMonth (rowsLatest nodes (q - (at + 1)) (at + 1))) ep
         ∙ ap latestMonth (test-latest nodes (at + 1) (linkAt nodes at 3) (within-block h e t) .1)
 
-  module _ {reach : ℕ} {first last : Month} {span : Reach} (m : InReach reach first last span) {w : Window} (ew : w ≡ windowOf first last span)
+  module _ {low high : ℤ} {labels : ℕ} {table : Table} {a z : ℕ} (s : Seen low high labels table a z) {w : Window} (ew : w ≡ windowOf low high labels)
       {x : Bool} (ex : x ≡ rowsRead w nodes (p - (at + 1)) (at + 1)) where
-    pub scale-window : l ≡ Scale → x ≡ amountReads (tableOf span) (natOf (first .0)) (natOf (last .0)) (amountAt offsetOf maxNodes nodes (at + 1))
-    scale-window t = ex ∙ rw (ew, ep) (amount-reads m nodes (at + 1) (linkAt nodes at 3) (scale-block h e t) .1)
+    pub scale-window : l ≡ Scale → x ≡ amountReads table a z (amountAt offsetOf maxNodes nodes (at + 1))
+    scale-window t = ex ∙ rw (ew, ep) (amount-reads s nodes (at + 1) (linkAt nodes at 3) (scale-block h e t) .1)
 
-    pub within-window : l ≡ Within → x ≡ testReads (tableOf span) (natOf (first .0)) (natOf (last .0)) (testAt offsetOf maxNodes nodes (at + 1))
-    within-window t = ex ∙ rw (ew, ep) (test-reads m nodes (at + 1) (linkAt nodes at 3) (within-block h e t) .1)
+    pub within-window : l ≡ Within → x ≡ testReads table a z (testAt offsetOf maxNodes nodes (at + 1))
+    within-window t = ex ∙ rw (ew, ep) (test-reads s nodes (at + 1) (linkAt nodes at 3) (within-block h e t) .1)
 
   module _ (bound : ℕ → ℕ) {r : ℕ} (er : r ≡ rowsMagnitude bound nodes (p - (at + 1)) (at + 1)) where
     pub scale-summed : l ≡ Scale → r ≤ maxAmount → r ≡ measuredAmount bound (amountAt offsetOf maxNodes nodes (at + 1))

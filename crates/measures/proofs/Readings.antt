@@ -2,46 +2,24 @@
 use Prim.Native.Nat.{_+_, _-_, _<_, _≤_, suc, zero, ℕ}
 use Rattle.integers.proofs.Solver.{_⊕_, _⊖_, dn, le-parts, lit, sound, up, var, ⊝}
 use Rattle.integers.proofs.Tests.{le-false, le-true}
-use Rattle.integers.specs.Bounded.{Small}
-use Rattle.integers.specs.declared.Month.{Month}
 use Rattle.language.proofs.Truth.{tested}
 use Rattle.language.specs.Limits.{maxNodes}
-use Rattle.language.specs.Rules.Table.{readable}
+use Rattle.language.specs.Rules.Table.{Table, readable}
 use Rattle.language.specs.Rules.Tests.{amountReads, testReads}
-use Rattle.measures.proofs.Fields.{whole}
 use Rattle.measures.proofs.RowsTogether.{Joins, amount-rows, reading, test-rows}
 use Rattle.measures.specs.Blocks.{AmountBlock, TestBlock}
 use Rattle.measures.specs.Rows.{inWindow, rowReads, rowsOf, rowsRead}
-use Rattle.measures.specs.Spans.{InReach, tableOf, windowOf}
-use Rattle.measures.specs.declared.reads.Reach.{Reach}
+use Rattle.measures.specs.Spans.{Seen, windowOf}
 use Rattle.measures.specs.declared.reads.Window.{Window}
 use Rattle.nodes.specs.Found.{amountAt, offsetOf, testAt}
-use Rattle.nodes.specs.Table.{natOf}
-use lib.Dec.{T, ltb}
-use lib.IntN.{_+ℤ_, _-ℤ_, negsuc, negℤ, pos, ℤ}
-use lib.ListN.{length-replicate}
-use lib.Signed.{leZ, nonNeg}
+use lib.Dec.{ltb}
+use lib.IntN.{_+ℤ_, _-ℤ_, negℤ, pos, ℤ}
+use lib.ListN.{length}
+use lib.Signed.{leZ}
 use mathlib.Core.Bool.{Bool, _&&_, and-assoc, and-false, and-true, false, true}
 use mathlib.Core.List.{List}
 use mathlib.Core.Path.{_∙_, _≡_, ap, ap₂, refl, sym}
 use native.Mathlib.Omega.{arith}
-
--- ---- months
-
-month-small : (z : ℤ) → T (nonNeg z) → natOf z ≤ 20_000 → Small z
-month-small (pos n) t b = record { small = omega arith }
-month-small (negsuc n) t b = absurd t
-
-pub month-after : (f d a : ℤ) {n : ℕ} → T (nonNeg f) → d ≡ pos n → a ≡ f +ℤ d → (natOf a ≡ natOf f + n) × T (nonNeg a)
-month-after (pos f) d a {n} t ed ea = let e : a ≡ pos (f + n) = ea ∙ ap (λ z. pos f +ℤ z) ed in rw e (refl, tt)
-month-after (negsuc f) d a t ed ea = absurd t
-
-module _ {left : ℕ} {first last : Month} {span : Reach} (h : InReach left first last span) where
-  pub first-small : Small (first .0)
-  first-small = month-small (first .0) (h .firstFrom) (omega (arith, h .firstRoom))
-
-  pub last-small : Small (last .0)
-  last-small = month-small (last .0) (h .lastFrom) (omega (arith, h .lastRoom))
 
 -- ---- the window: what can be read from both months
 
@@ -82,23 +60,15 @@ ends true false h m k f g = refl
 ends true true h m true f g = rw (f refl, g refl) refl
 ends true true h m false f g = rw (f refl, and-false h) refl
 
-module _ {left : ℕ} {first last : Month} {span : Reach} (m : InReach left first last span) where
-  abbrev a : ℕ
-  a = natOf (first .0)
-
-  abbrev z : ℕ
-  z = natOf (last .0)
-
-  window-reads : (l : ℕ) (i : ℤ) → (readable (tableOf span) l (pos a +ℤ i) && readable (tableOf span) l (pos z +ℤ i)) ≡ inWindow (windowOf first last span) l i
+module _ {low high : ℤ} {labels : ℕ} {t : Table} {a z : ℕ} (s : Seen low high labels t a z) where
+  window-reads : (l : ℕ) (i : ℤ) → (readable t l (pos a +ℤ i) && readable t l (pos z +ℤ i)) ≡ inWindow (windowOf low high labels) l i
   window-reads l i =
-      rw (length-replicate (span .labels) (pos 0))
-      (ends (ltb l (span .labels)) (leZ (negℤ (span .h)) (pos a +ℤ i)) (leZ (pos a +ℤ i) (span .f)) (leZ (negℤ (span .h)) (pos z +ℤ i)) (leZ (pos z +ℤ i) (span .f))
-      (later-low (negℤ (span .h)) i a z (m .order)) (sooner-high (span .f) i a z (m .order))
-      ∙ ap₂ (λ b c. ltb l (span .labels) && (b && c))
-      (low-is (span .h) i a ∙ ap (λ w. leZ (pos 0 -ℤ (span .h +ℤ w)) i) (sym (whole (first .0) (m .firstFrom))))
-      (high-is (span .f) i z ∙ ap (λ w. leZ i (span .f -ℤ w)) (sym (whole (last .0) (m .lastFrom)))))
+      rw (s .least, s .greatest, s .labelled)
+      (ends (ltb l (length (t .bounds))) (leZ (negℤ (t .h)) (pos a +ℤ i)) (leZ (pos a +ℤ i) (t .f)) (leZ (negℤ (t .h)) (pos z +ℤ i)) (leZ (pos z +ℤ i) (t .f))
+      (later-low (negℤ (t .h)) i a z (s .order)) (sooner-high (t .f) i a z (s .order))
+      ∙ ap₂ (λ b c. ltb l (length (t .bounds)) && (b && c)) (low-is (t .h) i a) (high-is (t .f) i z))
 
-  reads-join : Joins true _&&_ (λ l i. inWindow (windowOf first last span) l i) (amountReads (tableOf span) a z) (testReads (tableOf span) a z)
+  reads-join : Joins true _&&_ (λ l i. inWindow (windowOf low high labels) l i) (amountReads t a z) (testReads t a z)
   unfolding amountReads testReads
   reads-join = record {
     first-none = λ x. refl;
@@ -121,11 +91,11 @@ module _ {left : ℕ} {first last : Month} {span : Reach} (m : InReach left firs
   -- ---- an amount's and a test's
 
   pub amount-reads : (nodes : List ℤ) (from to : ℕ) → AmountBlock maxNodes nodes from to
-      → (from < to) × (rowsRead (windowOf first last span) nodes (to - from) from ≡ amountReads (tableOf span) a z (amountAt offsetOf maxNodes nodes from))
+      → (from < to) × (rowsRead (windowOf low high labels) nodes (to - from) from ≡ amountReads t a z (amountAt offsetOf maxNodes nodes from))
   amount-reads nodes from to b = let r = amount-rows (reading reads-join nodes) maxNodes from to b in (r .some, r .gives)
 
   pub test-reads : (nodes : List ℤ) (from to : ℕ) → TestBlock maxNodes nodes from to
-      → (from < to) × (rowsRead (windowOf first last span) nodes (to - from) from ≡ testReads (tableOf span) a z (testAt offsetOf maxNodes nodes from))
+      → (from < to) × (rowsRead (windowOf low high labels) nodes (to - from) from ≡ testReads t a z (testAt offsetOf maxNodes nodes from))
   test-reads nodes from to b = let r = test-rows (reading reads-join nodes) maxNodes from to b in (r .some, r .gives)
 
 -- ---- the loop: whether every row that was passed can be read

@@ -1,16 +1,14 @@
--- Reads look only at a table's months and at how many labels it has: a span's table reads as any table of that span.
+-- Reads look only at a table's months and at how many labels it has.
 use Prim.Native.Nat.{_+_, ℕ}
 use Rattle.language.specs.Rules.Table.{Table, readable}
 use Rattle.language.specs.Rules.Tests.{amountReads, planReads, testReads}
 use Rattle.language.specs.Text.Number.{between}
 use Rattle.language.specs.Text.Trees.{Amount, Plan, Test, both, choose, conjunction, difference, disjunction, equal, index, later, less, negation, nothing, number, product, quotient, scale, sum, transfer, within}
-use Rattle.measures.specs.Spans.{tableOf}
-use Rattle.measures.specs.declared.reads.Reach.{Reach}
 use lib.Dec.{ltb}
 use lib.IntN.{_+ℤ_, negℤ, pos, ℤ}
-use lib.ListN.{length, length-replicate}
+use lib.ListN.{length}
 use mathlib.Core.Bool.{_&&_}
-use mathlib.Core.Path.{_∙_, _≡_, ap, ap₂, refl}
+use mathlib.Core.Path.{_≡_, ap, ap₂, refl}
 
 module _ (s t : Table) (eh : s .h ≡ t .h) (ef : s .f ≡ t .f) (en : length (s .bounds) ≡ length (t .bounds)) where
   same-readable : (l : ℕ) (m : ℤ) → readable s l m ≡ readable t l m
@@ -44,7 +42,3 @@ module _ (s t : Table) (eh : s .h ≡ t .h) (ef : s .f ≡ t .f) (en : length (s
   same-plan (later d c) a z = same-plan c (a + d) (z + d)
   same-plan (both x y) a z = ap₂ _&&_ (same-plan x a z) (same-plan y a z)
   same-plan (within d c x y) a z = ap₂ _&&_ (same-test a (z + d) c) (ap₂ _&&_ (same-plan x a (z + d)) (same-plan y (a + d) (z + d)))
-
-pub span-reads : (span : Reach) (t : Table) → span .h ≡ t .h → span .f ≡ t .f → span .labels ≡ length (t .bounds)
-    → (x : Plan ℕ) (a z : ℕ) → planReads (tableOf span) a z x ≡ planReads t a z x
-span-reads span t eh ef en = same-plan (tableOf span) t eh ef (length-replicate (span .labels) (pos 0) ∙ en)

@@ -1,31 +1,23 @@
--- What reads look at in a table, and the months in which a node may stand.
+-- The offsets that can be read from a node that may stand in several months.
 use Prim.Native.Nat.{_*_, _+_, _≤_, ℕ}
-use Rattle.integers.specs.declared.Month.{Month}
 use Rattle.language.specs.Limits.{maxMonths}
 use Rattle.language.specs.Rules.Table.{Table}
-use Rattle.measures.specs.declared.reads.Reach.{Reach}
 use Rattle.measures.specs.declared.reads.Window.{Window}
-use Rattle.nodes.specs.Table.{natOf}
-use lib.Dec.{T}
-use lib.IntN.{_+ℤ_, _-ℤ_, natAbs, pos}
-use lib.ListN.{replicate}
-use lib.Signed.{nonNeg}
-use mathlib.Core.List.{[]}
+use lib.IntN.{_+ℤ_, _-ℤ_, natAbs, pos, ℤ}
+use lib.ListN.{length}
+use mathlib.Core.Path.{_≡_}
 
--- a table with these months and as many labels
-abbrev pub tableOf : Reach → Table
-tableOf s = record { h = s .h; f = s .f; factors = []; bounds = replicate (s .labels) (pos 0); values = [] }
+-- offsets from low to high are those that can be read in the table from every month from a to z
+pub record Seen (low high : ℤ) (labels : ℕ) (t : Table) (a z : ℕ) : Type 0 where
+  pub order : a ≤ z
+  pub least : low ≡ pos 0 -ℤ (t .h +ℤ pos a)
+  pub greatest : high ≡ t .f -ℤ pos z
+  pub labelled : labels ≡ length (t .bounds)
 
--- the first and the last month in which a node may stand, with room for `left` more delays: today 600 and 32 delays of 600 make 19,800
-pub record InReach (left : ℕ) (first last : Month) (span : Reach) : Type 0 where
-  pub firstFrom : T (nonNeg (first .0))
-  pub lastFrom : T (nonNeg (last .0))
-  pub firstRoom : natOf (first .0) + maxMonths * left ≤ 20_000
-  pub lastRoom : natOf (last .0) + maxMonths * left ≤ 20_000
-  pub order : natOf (first .0) ≤ natOf (last .0)
-  pub back : natAbs (span .h) ≤ maxMonths
-  pub ahead : natAbs (span .f) ≤ maxMonths
+-- two offsets with room for `left` more delays: at the start they are within 1,200 of zero, and 32 delays of 600 make 19,200
+pub record Near (left : ℕ) (low high : ℤ) : Type 0 where
+  pub lowRoom : natAbs low + maxMonths * left ≤ 30_000
+  pub highRoom : natAbs high + maxMonths * left ≤ 30_000
 
--- the offsets that can be read from every month between the two
-abbrev pub windowOf : Month → Month → Reach → Window
-windowOf first last span = record { low = pos 0 -ℤ (span .h +ℤ first .0); high = span .f -ℤ last .0; labels = span .labels }
+abbrev pub windowOf : ℤ → ℤ → ℕ → Window
+windowOf low high labels = record { low = low; high = high; labels = labels }

@@ -13,14 +13,13 @@ ghost use Rattle.nodes.specs.Table.{natOf};
 ghost use Rattle.measures.specs.Magnitudes.{InBounds, boundIn, measuredAmount};
 ghost use Rattle.measures.specs.PlanMeasures.{Addable, MeasuresOf};
 ghost use Rattle.measures.specs.Ready.{AmountReady, PlanReady, TestReady};
-ghost use Rattle.measures.specs.Spans.{InReach, tableOf};
+ghost use Rattle.measures.specs.Spans.{Near, Seen};
 ghost use Rattle.measures.specs.Timing.{latestMonth, neverMonth};
 use crate::first;
 use crate::limit;
 use crate::magnitude;
 use crate::node;
 use crate::reads;
-use crate::reads::Reach;
 use crate::rows;
 use crate::rows::Rows;
 use integers::Month;
@@ -176,18 +175,19 @@ fn of_within(d: u64, rows: Rows, small: bool, x: Measures, y: Measures) -> Measu
 
 // ---- the walk
 
-// A plan whose node may stand in any month from the first to the last.
+// A plan, and the offsets that can be read from every month in which its node may stand.
 pub fn measure_plan(
     nodes: &&[i64],
     at: usize,
     left: usize,
-    first: Month,
-    last: Month,
-    span: Reach,
+    low: Month,
+    high: Month,
+    labels: usize,
     bounds: &[i64],
 ) -> Measures
-    requires { ⌜ PlanReady left (now (now nodes)) at × InReach left first last span × InBounds (now bounds) ⌝ }
-    ensures { λ r. ⌜ MeasuresOf (tableOf span) (natOf (first .0)) (natOf (last .0)) (boundIn (now (bounds .entry))) (planAt natOf left (now (now (nodes .entry))) at) r ⌝ }
+    requires { ⌜ PlanReady left (now (now nodes)) at × Near left (low .0) (high .0) × InBounds (now bounds) ⌝ }
+    ensures { λ r. ⌜ ((t : Table) (a z : ℕ) → Seen (low .0) (high .0) labels t a z
+        → MeasuresOf t a z (boundIn (now (bounds .entry))) (planAt natOf left (now (now (nodes .entry))) at) r) ⌝ }
 {
     let letter = node::plan_kind(nodes, at);
     match letter {
@@ -195,39 +195,39 @@ pub fn measure_plan(
         PlanLetter::Transfer => of_transfer(),
         PlanLetter::Scale => {
             let next = nodes::link(nodes, at, 3);
-            let w = reads::window_of(first, last, span);
+            let w = reads::window_of(low, high, labels);
             let rows = rows::read_rows(nodes, at + 1, next, w, bounds);
             let m = amount_of(nodes, at + 1, rows.magnitude, bounds);
             if node::is_transfer(nodes, next) {
                 return of_scale(rows, m, of_transfer());
             }
-            let x = measure_plan(nodes, next, left - 1, first, last, span, bounds);
+            let x = measure_plan(nodes, next, left - 1, low, high, labels, bounds);
             of_scale(rows, m, x)
         }
         PlanLetter::Later => {
             let d = node::delay(nodes, at);
-            let a = integers::later(first, d);
-            let z = integers::later(last, d);
-            let x = measure_plan(nodes, at + 1, left - 1, a, z, span, bounds);
+            let low_then = reads::nearer(low, d);
+            let high_then = reads::nearer(high, d);
+            let x = measure_plan(nodes, at + 1, left - 1, low_then, high_then, labels, bounds);
             of_later(node::months(nodes, at), x)
         }
         PlanLetter::Both => {
             let next = nodes::link(nodes, at, 3);
-            let x = measure_plan(nodes, at + 1, left - 1, first, last, span, bounds);
-            let y = measure_plan(nodes, next, left - 1, first, last, span, bounds);
+            let x = measure_plan(nodes, at + 1, left - 1, low, high, labels, bounds);
+            let y = measure_plan(nodes, next, left - 1, low, high, labels, bounds);
             of_both(x, y)
         }
         PlanLetter::Within => {
             let d = node::delay(nodes, at);
-            let a = integers::later(first, d);
-            let z = integers::later(last, d);
+            let low_then = reads::nearer(low, d);
+            let high_then = reads::nearer(high, d);
             let next = nodes::link(nodes, at, 3);
             let other = nodes::link(nodes, at, 4);
-            let w = reads::window_of(first, z, span);
+            let w = reads::window_of(low, high_then, labels);
             let rows = rows::read_rows(nodes, at + 1, next, w, bounds);
             let t = test_of(nodes, at + 1, rows.magnitude, bounds);
-            let x = measure_plan(nodes, next, left - 1, first, z, span, bounds);
-            let y = measure_plan(nodes, other, left - 1, a, z, span, bounds);
+            let x = measure_plan(nodes, next, left - 1, low, high_then, labels, bounds);
+            let y = measure_plan(nodes, other, left - 1, low_then, high_then, labels, bounds);
             of_within(node::months(nodes, at), rows, t, x, y)
         }
         PlanLetter::NoPlan => of_nothing(),

@@ -1,8 +1,10 @@
 // What a plan may read: the months and labels of a table, and the offsets that can be read from a node.
 ghost use mathlib.Core.Path.{_≡_};
+ghost use lib.IntN.{_-ℤ_};
+ghost use Rattle.integers.specs.Bounded.{Small};
 ghost use Rattle.nodes.specs.Table.{RowIn};
 ghost use Rattle.measures.specs.Rows.{rowReads};
-ghost use Rattle.measures.specs.Spans.{InReach, windowOf};
+ghost use Rattle.measures.specs.Spans.{windowOf};
 use crate::node;
 use integers::Month;
 
@@ -20,17 +22,20 @@ pub struct Window {
     pub labels: usize,
 }
 
-// For a node that may stand in any month from the first to the last.
-pub fn window_of(first: Month, last: Month, span: Reach) -> Window
-    requires { ⌜ InReach 0 first last span ⌝ }
-    ensures { λ r. ⌜ r ≡ windowOf first last span ⌝ }
+// What is read at an offset from a node is read from d months later at an offset d less.
+pub fn nearer(offset: Month, d: Month) -> Month
+    requires { ⌜ Small (offset .0) × Small (d .0) ⌝ }
+    ensures { λ r. ⌜ r .0 ≡ offset .0 -ℤ d .0 ⌝ }
 {
-    let low = 0 - (span.h + first.0);
-    let high = span.f - last.0;
-    let labels = span.labels;
+    Month(offset.0 - d.0)
+}
+
+pub fn window_of(low: Month, high: Month, labels: usize) -> Window
+    ensures { λ r. ⌜ r ≡ windowOf (low .0) (high .0) labels ⌝ }
+{
     Window {
-        low: low,
-        high: high,
+        low: low.0,
+        high: high.0,
         labels: labels,
     }
 }

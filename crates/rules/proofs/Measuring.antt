@@ -2,31 +2,32 @@
 use Prim.Native.Nat.{_+_, _≤_, ℕ}
 use borrow.Author.Tests.{le-leb, lt-leb}
 use lib.Dec.{T, leb}
-use lib.IntN.{_+ℤ_, natAbs, negsuc, pos, ℤ}
+use lib.IntN.{_+ℤ_, _-ℤ_, natAbs, negsuc, pos, ℤ}
 use lib.Signed.{ltZ, nonNeg}
 use mathlib.Core.Bool.{Bool, false, true}
 use mathlib.Core.List.{List, []}
-use mathlib.Core.Path.{_∙_, _≡_, refl, sym}
-use mir.Facts.{toZ-pos}
+use mathlib.Core.Path.{_∙_, _≡_, ap₂, refl, sym}
+use mir.Facts.{toZ-ofZ, toZ-pos}
 use mir.Syntax.{w64}
 use mir.Val.{SFits, toZ}
 use native.Mathlib.Omega.{arith}
-use Rattle.integers.proofs.Laws.{sfits64}
+use Rattle.integers.proofs.Laws.{natAbs-sub, sfits64}
+use Rattle.integers.proofs.Locals.{rd, small-fits}
+use Rattle.integers.proofs.Solver.{_⊕_, _⊖_, lit, ring, var}
 use Rattle.integers.proofs.Tests.{lt-false, lt-true}
 use Rattle.integers.specs.Bounded.{Small}
 use Rattle.integers.specs.declared.Month.{Month}
 use Rattle.integers.specs.declared.Pence.{Pence}
 use Rattle.language.specs.Answer.{Answer}
 use Rattle.language.specs.Calls.{Checked, meetsRules}
-use Rattle.language.specs.Limits.{maxAmount}
+use Rattle.language.specs.Limits.{maxAmount, maxBack}
 use Rattle.language.specs.Rules.Measures.{lengthOf, magnitudeOf}
 use Rattle.language.specs.Rules.Table.{Table}
 use Rattle.language.specs.Rules.Tests.{knownInTime, planReads, planSmall}
 use Rattle.language.specs.Text.Trees.{Plan}
 use Rattle.measures.proofs.PlanMagnitudes.{plan-within}
-use Rattle.measures.proofs.SameReads.{span-reads}
 use Rattle.measures.specs.Magnitudes.{boundIn, measuredPlan}
-use Rattle.measures.specs.Spans as reads
+use Rattle.measures.specs.Spans.{Near, Seen}
 use Rattle.measures.specs.declared.reads.Reach.{Reach}
 use Rattle.nodes.specs.Table.{natOf}
 use Rattle.rules.specs.Answers.{Natural, checkingAnswer}
@@ -51,20 +52,53 @@ module _ {m : ℕ} (h : m ≤ maxAmount) where
   pub plain-read : toZ w64 m ≡ pos m
   plain-read = toZ-pos w64 (omega (arith, h))
 
-natural : (z : ℤ) → natOf z ≤ natAbs z
-natural (pos n) = omega arith
-natural (negsuc n) = omega arith
+-- ---- the offsets that can be read from today
 
-pub in-reach : (today : Month) (s : Reach) (bounds : List ℤ) → InTable (today .0) (s .h) (s .f) (s .labels) bounds → reads.InReach 32 today today s
-in-reach today s bounds h = record {
-  firstFrom = h .todayFrom;
-  lastFrom = h .todayFrom;
-  firstRoom = omega (arith, natural (today .0), h .todayTo);
-  lastRoom = omega (arith, natural (today .0), h .todayTo);
-  order = omega arith;
-  back = omega (arith, h .hTo);
-  ahead = h .fTo;
-}
+module _ (today : ℤ) (s : Reach) (bounds : List ℤ) (h : InTable today (s .h) (s .f) (s .labels) bounds) where
+  back-size : natAbs (pos 0 -ℤ s .h) ≤ maxBack
+  back-size = omega (arith, natAbs-sub (pos 0) (s .h), h .hTo)
+
+  back-fits : SFits w64 (s .h)
+  back-fits = small-fits (record { small = omega (arith, h .hTo) })
+
+  back-small : Small (pos 0 -ℤ s .h)
+  back-small = record { small = omega (arith, back-size) }
+
+  ahead-small : Small (s .f)
+  ahead-small = record { small = omega (arith, h .fTo) }
+
+  pub start-fits : SFits w64 (pos 0 -ℤ rd (s .h))
+  start-fits = rw (toZ-ofZ back-fits) (small-fits back-small)
+
+  start-reads : rd (pos 0 -ℤ rd (s .h)) ≡ pos 0 -ℤ s .h
+  start-reads = rw (toZ-ofZ back-fits) (toZ-ofZ (small-fits back-small))
+
+  end-reads : rd (s .f) ≡ s .f
+  end-reads = toZ-ofZ (small-fits ahead-small)
+
+  pub start-small : Small (rd (pos 0 -ℤ rd (s .h)))
+  start-small = rw start-reads back-small
+
+  pub end-small : Small (rd (s .f))
+  end-small = rw end-reads ahead-small
+
+  module _ {low high : ℤ} (el : low ≡ rd (pos 0 -ℤ rd (s .h)) -ℤ today) (eh : high ≡ rd (s .f) -ℤ today) where
+    pub near-today : Near 32 low high
+    near-today = rw (el, eh, start-reads, end-reads) (record {
+      lowRoom = omega (arith, natAbs-sub (pos 0 -ℤ s .h) today, back-size, h .todayTo);
+      highRoom = omega (arith, natAbs-sub (s .f) today, h .fTo, h .todayTo);
+    })
+
+    pub seen-today : Seen low high (s .labels) (tableOf (s .h) (s .f) [] bounds []) (natOf today) (natOf today)
+    seen-today =
+        let e = from-zero today (h .todayFrom) in
+        let w = ring ((lit 0 ⊖ var (s .h)) ⊖ lit (natOf today)) (lit 0 ⊖ (var (s .h) ⊕ lit (natOf today))) (omega arith) in
+        record {
+          order = omega arith;
+          least = el ∙ ap₂ _-ℤ_ start-reads e ∙ w;
+          greatest = eh ∙ ap₂ _-ℤ_ end-reads e;
+          labelled = h .labelled;
+        }
 
 module _ (today : ℤ) (s : Reach) (bounds : List ℤ) (x : Plan ℕ) (h : InTable today (s .h) (s .f) (s .labels) bounds) where
   abbrev table : Table
@@ -87,22 +121,19 @@ module _ (today : ℤ) (s : Reach) (bounds : List ℤ) (x : Plan ℕ) (h : InTab
       go (pos n) p q = le-leb (natOf today + lengthOf x) n (omega (arith, lt-false (pos n) (pos (natOf today + lengthOf x)) q))
       go (negsuc n) p q = absurd p
 
-  reads-is : {b : Bool} → b ≡ planReads (reads.tableOf s) (natOf today) (natOf today) x → b ≡ planReads table (natOf today) (natOf today) x
-  reads-is e = e ∙ span-reads s table refl refl (h .labelled) x (natOf today) (natOf today)
-
   pub too-long : (l : ℤ) → l ≡ pos (lengthOf x) → ltZ (s .f) (today +ℤ l) ≡ true → checkingAnswer (Refused Length) ≡ answer
   unfolding checkingAnswer meetsRules
   too-long l e c = rw (beyond-f l e c) refl
 
   module _ (l : Month) (e : l .0 ≡ pos (lengthOf x)) (c : ltZ (s .f) (today +ℤ l .0) ≡ false) where
-    pub unread : {b : Bool} → b ≡ planReads (reads.tableOf s) (natOf today) (natOf today) x → b ≡ false → checkingAnswer (Refused Reads) ≡ answer
+    pub unread : {b : Bool} → b ≡ planReads table (natOf today) (natOf today) x → b ≡ false → checkingAnswer (Refused Reads) ≡ answer
     unfolding checkingAnswer meetsRules
-    unread r q = rw (within-f (l .0) e c, sym (reads-is r) ∙ q) refl
+    unread r q = rw (within-f (l .0) e c, sym r ∙ q) refl
 
-    module _ {b : Bool} (r : b ≡ planReads (reads.tableOf s) (natOf today) (natOf today) x) (q : b ≡ true) where
+    module _ {b : Bool} (r : b ≡ planReads table (natOf today) (natOf today) x) (q : b ≡ true) where
       pub late : {k : Bool} → k ≡ knownInTime x → k ≡ false → checkingAnswer (Refused NotInTime) ≡ answer
       unfolding checkingAnswer meetsRules
-      late n o = rw (within-f (l .0) e c, sym (reads-is r) ∙ q, sym n ∙ o) refl
+      late n o = rw (within-f (l .0) e c, sym r ∙ q, sym n ∙ o) refl
 
       module _ {k : Bool} (n : k ≡ knownInTime x) (o : k ≡ true) where
         is-small : {m : ℕ} → m ≡ measuredPlan (boundIn bounds) x → (v : Bool) → leb m maxAmount ≡ v → planSmall (boundIn bounds) x ≡ v
@@ -113,8 +144,8 @@ module _ (today : ℤ) (s : Reach) (bounds : List ℤ) (x : Plan ℕ) (h : InTab
         accepted {m} d w p g =
             let y = is-small d true w in
             let z : m ≡ magnitudeOf (boundIn bounds) x = rw y at d in
-            rw (within-f (l .0) e c, sym (reads-is r) ∙ q, sym n ∙ o, y) (rw (e, g, z) (refl, (tt, tt)))
+            rw (within-f (l .0) e c, sym r ∙ q, sym n ∙ o, y) (rw (e, g, z) (refl, (tt, tt)))
 
         pub too-great : {m : ℕ} → m ≡ measuredPlan (boundIn bounds) x → leb m maxAmount ≡ false → checkingAnswer (Refused Magnitude) ≡ answer
         unfolding checkingAnswer meetsRules
-        too-great d w = rw (within-f (l .0) e c, sym (reads-is r) ∙ q, sym n ∙ o, is-small d false w) refl
+        too-great d w = rw (within-f (l .0) e c, sym r ∙ q, sym n ∙ o, is-small d false w) refl

@@ -29,7 +29,10 @@ pub fn measure(nodes: &[i64], today: Month, reach: Reach, bounds: &[i64]) -> Che
     requires { ⌜ PlanReady 32 (now nodes) 0 × InTable (today .0) (reach .h) (reach .f) (reach .labels) (now bounds) ⌝ }
     ensures { λ r. ⌜ (checkingAnswer r ≡ measuredBy (reach .h) (reach .f) (now (bounds .entry)) (natOf (today .0)) (planAt natOf 32 (now (nodes .entry)) 0)) × Natural r ⌝ }
 {
-    let m = measures::plan::measure_plan(&nodes, 0, 32, today, today, reach, bounds);
+    // The offsets that can be read from today.
+    let low = measures::reads::nearer(Month(0 - reach.h), today);
+    let high = measures::reads::nearer(Month(reach.f), today);
+    let m = measures::plan::measure_plan(&nodes, 0, 32, low, high, reach.labels, bounds);
     let length = Month(m.length as i64);
     let last = integers::later(today, length);
     if reach.f < last.0 {

@@ -9,30 +9,47 @@ use native.Mathlib.Omega.{arith}
 use Rattle.measures.proofs.Lengths.{few, length-bound}
 use Rattle.nodes.specs.Found.{planAt}
 use Rattle.nodes.specs.Table.{natOf}
-use Rattle.rules.proofs.Measuring.{accepted, few-months, in-reach, late, plain-fits, plain-read, too-great, too-long, unread}
+use Rattle.rules.proofs.Measuring.{accepted, end-small, few-months, late, near-today, plain-fits, plain-read, seen-today, start-fits, start-small, too-great, too-long, unread}
 use Rattle.rules.proofs.measure.Statement.{statement}
 use Rattle.rules.proofs.measure.Tie as tie
 
-measure-plan-requires : tie.Need-measure-plan-requires
-measure-plan-requires c κs = (c .before .pre .0, in-reach (c .before .args .today) (c .before .args .reach) (c .before .args .bounds .now) (c .before .pre .1), c .before .pre .1 .bounded)
+sub-t11 : tie.Need-sub-t11
+sub-t11 c =
+    let s = c .before .before in
+    start-fits (s .args .today .0) (s .args .reach) (s .args .bounds .now) (s .pre .1)
 
-cast-t10 : tie.Need-cast-t10
-cast-t10 c =
-    let s = c .before .before .before in
-    let k = c .before .measure-plan .ensures in
+nearer-requires : tie.Need-nearer-requires
+nearer-requires c κs =
+    let s = c .before .before in
+    (start-small (s .args .today .0) (s .args .reach) (s .args .bounds .now) (s .pre .1), few-months (s .args .today .0) (s .args .reach) (s .args .bounds .now) (s .pre .1))
+
+nearer-requires-2 : tie.Need-nearer-requires-2
+nearer-requires-2 c κs =
+    let s = c .before .before .before .before in
+    (end-small (s .args .today .0) (s .args .reach) (s .args .bounds .now) (s .pre .1), few-months (s .args .today .0) (s .args .reach) (s .args .bounds .now) (s .pre .1))
+
+measure-plan-requires : tie.Need-measure-plan-requires
+measure-plan-requires c κs =
+    let s = c .before .before .before .before .before .before in
+    (s .pre .0, near-today (s .args .today .0) (s .args .reach) (s .args .bounds .now) (s .pre .1) (c .before .before .before .nearer .ensures) (c .before .nearer2 .ensures), s .pre .1 .bounded)
+
+cast-t11 : tie.Need-cast-t11
+cast-t11 c =
+    let s = c .before .before .before .before .before .before .before .before in
+    let k = c .before .measure-plan .ensures _ _ _ (seen-today (s .args .today .0) (s .args .reach) (s .args .bounds .now) (s .pre .1) (c .before .before .before .before .before .nearer .ensures) (c .before .before .before .nearer2 .ensures)) in
     plain-fits (omega (arith, k .length, length-bound (s .pre .0)))
 
 later-requires : tie.Need-later-requires
 later-requires c κs =
-    let s = c .before .before .before in
-    let k = c .before .measure-plan .ensures in
+    let s = c .before .before .before .before .before .before .before .before in
+    let k = c .before .measure-plan .ensures _ _ _ (seen-today (s .args .today .0) (s .args .reach) (s .args .bounds .now) (s .pre .1) (c .before .before .before .before .before .nearer .ensures) (c .before .before .before .nearer2 .ensures)) in
     let b = length-bound (s .pre .0) in
     (few-months (s .args .today .0) (s .args .reach) (s .args .bounds .now) (s .pre .1), few (plain-read (omega (arith, k .length, b)) ∙ ap pos (k .length)) (omega (arith, b)))
 
 returns : tie.Need-returns
 returns c =
-    let s = c .before .before .before .before .before .before .before .before .before in
-    let k = c .before .before .before .before .before .before .before .measure-plan .ensures in
+    let s = c .before .before .before .before .before .before .before .before .before .before .before .before .before .before in
+    let k = c .before .before .before .before .before .before .before .measure-plan .ensures _ _ _ (seen-today (s .args .today .0) (s .args .reach) (s .args .bounds .now) (s .pre .1) (c .before .before .before .before .before .before .before .before .before .before .before .nearer .ensures) (c .before .before .before .before .before .before .before .before .before .nearer2 .ensures)) in
     let x = planAt natOf 32 (s .args .t1 .now) 0 in
     let e = plain-read (omega (arith, k .length, length-bound (s .pre .0))) ∙ ap pos (k .length) in
     let f : SFits w64 (s .args .reach .f) = search needs in
@@ -43,13 +60,13 @@ returns c =
 is-within-requires : tie.Need-is-within-requires
 is-within-requires c κs = search needs
 
-cast-t18 : tie.Need-cast-t18
-cast-t18 c = plain-fits (leb-true _ _ (sym (c .before .before .is-within .ensures) ∙ c .before .if4 .taken))
+cast-t21 : tie.Need-cast-t21
+cast-t21 c = plain-fits (leb-true _ _ (sym (c .before .before .is-within .ensures) ∙ c .before .if4 .taken))
 
 returns-2 : tie.Need-returns-2
 returns-2 c =
-    let s = c .before .before .before .before .before .before .before .before .before .before .before .before .before .before in
-    let k = c .before .before .before .before .before .before .before .before .before .before .before .before .measure-plan .ensures in
+    let s = c .before .before .before .before .before .before .before .before .before .before .before .before .before .before .before .before .before .before .before in
+    let k = c .before .before .before .before .before .before .before .before .before .before .before .before .measure-plan .ensures _ _ _ (seen-today (s .args .today .0) (s .args .reach) (s .args .bounds .now) (s .pre .1) (c .before .before .before .before .before .before .before .before .before .before .before .before .before .before .before .before .nearer .ensures) (c .before .before .before .before .before .before .before .before .before .before .before .before .before .before .nearer2 .ensures)) in
     let x = planAt natOf 32 (s .args .t1 .now) 0 in
     let e = plain-read (omega (arith, k .length, length-bound (s .pre .0))) ∙ ap pos (k .length) in
     let f : SFits w64 (s .args .reach .f) = search needs in
@@ -60,8 +77,8 @@ returns-2 c =
 
 returns-3 : tie.Need-returns-3
 returns-3 c =
-    let s = c .before .before .before .before .before .before .before .before .before .before .before .before .before in
-    let k = c .before .before .before .before .before .before .before .before .before .before .before .measure-plan .ensures in
+    let s = c .before .before .before .before .before .before .before .before .before .before .before .before .before .before .before .before .before .before in
+    let k = c .before .before .before .before .before .before .before .before .before .before .before .measure-plan .ensures _ _ _ (seen-today (s .args .today .0) (s .args .reach) (s .args .bounds .now) (s .pre .1) (c .before .before .before .before .before .before .before .before .before .before .before .before .before .before .before .nearer .ensures) (c .before .before .before .before .before .before .before .before .before .before .before .before .before .nearer2 .ensures)) in
     let x = planAt natOf 32 (s .args .t1 .now) 0 in
     let e = plain-read (omega (arith, k .length, length-bound (s .pre .0))) ∙ ap pos (k .length) in
     let f : SFits w64 (s .args .reach .f) = search needs in
@@ -72,8 +89,8 @@ returns-3 c =
 
 returns-4 : tie.Need-returns-4
 returns-4 c =
-    let s = c .before .before .before .before .before .before .before .before .before .before .before in
-    let k = c .before .before .before .before .before .before .before .before .before .measure-plan .ensures in
+    let s = c .before .before .before .before .before .before .before .before .before .before .before .before .before .before .before .before in
+    let k = c .before .before .before .before .before .before .before .before .before .measure-plan .ensures _ _ _ (seen-today (s .args .today .0) (s .args .reach) (s .args .bounds .now) (s .pre .1) (c .before .before .before .before .before .before .before .before .before .before .before .before .before .nearer .ensures) (c .before .before .before .before .before .before .before .before .before .before .before .nearer2 .ensures)) in
     let x = planAt natOf 32 (s .args .t1 .now) 0 in
     let e = plain-read (omega (arith, k .length, length-bound (s .pre .0))) ∙ ap pos (k .length) in
     let f : SFits w64 (s .args .reach .f) = search needs in
@@ -83,8 +100,8 @@ returns-4 c =
 
 returns-5 : tie.Need-returns-5
 returns-5 c =
-    let s = c .before .before .before .before .before .before .before .before .before .before in
-    let k = c .before .before .before .before .before .before .before .before .measure-plan .ensures in
+    let s = c .before .before .before .before .before .before .before .before .before .before .before .before .before .before .before in
+    let k = c .before .before .before .before .before .before .before .before .measure-plan .ensures _ _ _ (seen-today (s .args .today .0) (s .args .reach) (s .args .bounds .now) (s .pre .1) (c .before .before .before .before .before .before .before .before .before .before .before .before .nearer .ensures) (c .before .before .before .before .before .before .before .before .before .before .nearer2 .ensures)) in
     let x = planAt natOf 32 (s .args .t1 .now) 0 in
     let e = plain-read (omega (arith, k .length, length-bound (s .pre .0))) ∙ ap pos (k .length) in
     let f : SFits w64 (s .args .reach .f) = search needs in
@@ -96,12 +113,15 @@ pub measure-spec : {M : Type 1} → statement M
 measure-spec =
     tie.close
     (tie.spec
+    sub-t11
+    nearer-requires
+    nearer-requires-2
     measure-plan-requires
-    cast-t10
+    cast-t11
     later-requires
     returns
     is-within-requires
-    cast-t18
+    cast-t21
     returns-2
     returns-3
     returns-4
