@@ -78,6 +78,44 @@ pub fn all() -> Vec<Case> {
             },
         },
         Case {
+            name: "step: a root that waits has one month less, to the byte",
+            needs: &["step"],
+            run: || {
+                let numbers = bare(0, 600);
+                let table = numbers.table();
+                for d in [500, 100, 99, 10, 1] {
+                    for (today, days, tomorrow) in [
+                        (format!("L,{d},S,N,-5,T,1,2"), vec![], "S,N,-5,T,1,2"),
+                        (format!("L,{d},L,P0,T,1,2"), vec![37], "L,37,T,1,2"),
+                        (format!("L,{d},Z"), vec![1, 2], "Z"),
+                        (
+                            format!("W,{d},E,N,1,N,2,T,1,2,Z"),
+                            vec![],
+                            "E,N,1,N,2,T,1,2,Z",
+                        ),
+                    ] {
+                        let next = format!("{},{},{tomorrow}", &today[..1], d - 1);
+                        let told = (0, next.clone());
+                        same_for(&today, step(&today, &days, &numbers, 0), Ok(told))?;
+                        let (n, mut out, mut answer) = (next.len(), [b'-'; 64], [77, 78]);
+                        let lend = |out: &mut [u8], answer: &mut [i64]| {
+                            lent::step(today.as_bytes(), &days, &table, 0, 1, 2, out, answer)
+                        };
+                        same_for(&today, lend(&mut out[..n - 1], &mut answer), 13)?;
+                        same_for(&today, (out, answer), ([b'-'; 64], [77, 78]))?;
+                        same_for(&today, lend(&mut out[..n], &mut answer), 0)?;
+                        same_for(
+                            &today,
+                            (&out[..n], answer),
+                            (next.as_bytes(), [0, n as i64]),
+                        )?;
+                        same_for(&today, out[n], b'-')?;
+                    }
+                }
+                Ok(())
+            },
+        },
+        Case {
             name: "sheet: a refused sheet is written, or 13",
             needs: &["sheet"],
             run: || {
