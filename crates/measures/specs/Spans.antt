@@ -19,5 +19,6 @@ pub record Near (left : ℕ) (low high : ℤ) : Type 0 where
   pub lowRoom : natAbs low + maxMonths * left ≤ 30_000
   pub highRoom : natAbs high + maxMonths * left ≤ 30_000
 
+-- these offsets and labels as one window
 abbrev pub windowOf : ℤ → ℤ → ℕ → Window
 windowOf low high labels = record { low = low; high = high; labels = labels }

@@ -30,6 +30,7 @@ pub fn nearer(offset: Month, d: Month) -> Month
     Month(offset.0 - d.0)
 }
 
+// Offsets and labels as one window, for the loop over rows.
 pub fn window_of(low: Month, high: Month, labels: usize) -> Window
     ensures { λ r. ⌜ r ≡ windowOf (low .0) (high .0) labels ⌝ }
 {
