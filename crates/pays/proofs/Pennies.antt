@@ -2,12 +2,13 @@
 use Prim.Native.Nat.{_<_}
 use borrow.Author.Tests.{eq-eqb, ne-eqb}
 use lib.Dec.{T, eqb}
-use lib.IntN.{natAbs, negsuc, pos, ℤ}
+use lib.IntN.{*ℤ-zero, _*ℤ_, natAbs, negsuc, pos, ℤ}
 use lib.Signed.{nonNeg}
 use mathlib.Core.Bool.{Bool, _&&_, cond, false, true}
 use mathlib.Core.Path.{_∙_, _≡_, ap, ap₂, refl, sym}
+use mir.Facts.{toZ-ofZ}
 use mir.Syntax.{w64}
-use mir.Val.{SFits, ofZ}
+use mir.Val.{SFits, ofZ, toZ}
 use native.Mathlib.Omega.{arith}
 use Rattle.amounts.specs.Fine.{MonthIn}
 use Rattle.integers.proofs.Bits.{same-bits}
@@ -23,6 +24,10 @@ bits-equal {a} {b} f g e = sym (same-bits a b f g) ∙ eq-eqb _ _ e
 
 bits-differ : {a b : ℤ} → SFits w64 a → SFits w64 b → (ofZ w64 a ≡ ofZ w64 b → ⊥) → eqZ a b ≡ false
 bits-differ {a} {b} f g e = sym (same-bits a b f g) ∙ ne-eqb _ _ e
+
+-- what is nothing makes nothing of an amount
+pub nothing-of-nothing : {x : ℤ} → SFits w64 x → ofZ w64 x ≡ ofZ w64 (pos 0) → (a : ℤ) → pos 0 ≡ a *ℤ x
+nothing-of-nothing f e a = sym (ap (λ x. a *ℤ x) (sym (toZ-ofZ f) ∙ ap (toZ w64) e) ∙ *ℤ-zero a)
 
 -- ---- parties
 

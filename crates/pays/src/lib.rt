@@ -15,6 +15,7 @@ use nodes::PlanLetter;
 use until::Until;
 
 pub mod rows;
+pub mod scale;
 pub mod transfer;
 pub mod until;
 
@@ -42,7 +43,6 @@ pub fn plan_pays(
         PlanLetter::Nothing => Pence(0),
         PlanLetter::Transfer => transfer::transfer(nodes, root, month, pair, at),
         PlanLetter::Scale => {
-            let a = amounts::amount_value(nodes, values, root, at + 1, 512);
             let x = plan_pays(
                 nodes,
                 values,
@@ -52,7 +52,7 @@ pub fn plan_pays(
                 nodes::link(nodes, at, 3),
                 left - 1,
             );
-            integers::times(a, x)
+            scale::scaled(nodes, values, root, at + 1, x)
         }
         PlanLetter::Later => {
             let next = integers::later(root, rows::delay(nodes, at));

@@ -11,14 +11,13 @@ use borrow.Fn.PlainCycle.{Measures, is, falls, and}
 use Rattle.pays.proofs.plan_pays.Reads as plan-pays
 use Rattle.pays.proofs.plan_pays.Kinds as plan-pays-kinds
 use Rattle.pays.proofs.+plan_pays.Lts-plan_pays as plan-pays-lts
-use Rattle.amounts.proofs.amount_value.Reads as amount-value-reads
 use Rattle.pays.proofs.until.wait_until.Reads as wait-until-reads
 use Rattle.integers.proofs.later.Reads as later-reads
 use Rattle.integers.proofs.plus.Reads as plus-reads
-use Rattle.integers.proofs.times.Reads as times-reads
 use Rattle.nodes.proofs.link.Reads as link-reads
 use Rattle.pays.proofs.rows.delay.Reads as delay-reads
 use Rattle.pays.proofs.rows.letter.Reads as letter-reads
+use Rattle.pays.proofs.scale.scaled.Reads as scaled-reads
 use Rattle.pays.proofs.transfer.transfer.Reads as transfer-reads
 use Rattle.pays.proofs.+plan_pays.{statement}
 use Rattle.pays.proofs.+plan_pays.Tie.{close}
@@ -33,7 +32,7 @@ abbrev plan-pays-below : ℕ → In 4 plan-pays-kinds.ps
 plan-pays-below t = and 4 plan-pays-kinds.ps (falls 4 plan-pays-kinds.ps _<_ μ-plan-pays t) plan-pays.Pre
 
 abbrev plan-pays-calls : ℕ → plan-pays-lts.Claims
-plan-pays-calls t = (letter-reads.Asked, letter-reads.Learnt, transfer-reads.Asked, transfer-reads.Learnt, amount-value-reads.Asked, amount-value-reads.Learnt, link-reads.Asked, link-reads.Learnt, plan-pays-below t, plan-pays.Post, times-reads.Asked, times-reads.Learnt, delay-reads.Asked, delay-reads.Learnt, later-reads.Asked, later-reads.Learnt, plus-reads.Asked, plus-reads.Learnt, wait-until-reads.Asked, wait-until-reads.Learnt)
+plan-pays-calls t = (letter-reads.Asked, letter-reads.Learnt, transfer-reads.Asked, transfer-reads.Learnt, link-reads.Asked, link-reads.Learnt, plan-pays-below t, plan-pays.Post, scaled-reads.Asked, scaled-reads.Learnt, delay-reads.Asked, delay-reads.Learnt, later-reads.Asked, later-reads.Learnt, plus-reads.Asked, plus-reads.Learnt, wait-until-reads.Asked, wait-until-reads.Learnt)
 
 plan-pays-letter-requires : (t : ℕ) → plan-pays-lts.Need-letter-requires (plan-pays-calls t) (plan-pays-at t) plan-pays.Post
 plan-pays-letter-requires t c κs =
@@ -45,49 +44,42 @@ plan-pays-transfer-requires t c κs =
     let h = c .before .before .before .pre .1 in
     (plan-inside _ _ _ (h .3), h .0, h .1, h .2)
 
-plan-pays-add-amount-value : (t : ℕ) → plan-pays-lts.Need-add-amount-value (plan-pays-calls t) (plan-pays-at t) plan-pays.Post
-plan-pays-add-amount-value t c =
-    let h = c .before .before .before .pre .1 in
-    let l = c .before .before .letter .ensures in
-    let n = plan-node _ _ _ _ _ _ _ (h .3) (h .4) l (c .enum-told3 .given .1) in
-    record { fits = omega (arith, n .inside) }
-
-plan-pays-amount-value-requires : (t : ℕ) → plan-pays-lts.Need-amount-value-requires (plan-pays-calls t) (plan-pays-at t) plan-pays.Post
-plan-pays-amount-value-requires t c κs =
-    let h = c .before .before .before .pre .1 in
-    let l = c .before .before .letter .ensures in
-    let n = plan-node _ _ _ _ _ _ _ (h .3) (h .4) l (c .enum-told3 .given .1) in
-    let a = parts.scale-amount n in
-    (h .0, a .0, a .1)
-
 plan-pays-link-requires : (t : ℕ) → plan-pays-lts.Need-link-requires (plan-pays-calls t) (plan-pays-at t) plan-pays.Post
 plan-pays-link-requires t c κs =
-    let h = c .before .before .before .before .pre .1 in
-    let l = c .before .before .before .letter .ensures in
-    let n = plan-node _ _ _ _ _ _ _ (h .3) (h .4) l (c .before .enum-told3 .given .1) in
+    let h = c .before .before .before .pre .1 in
+    let l = c .before .before .letter .ensures in
+    let n = plan-node _ _ _ _ _ _ _ (h .3) (h .4) l (c .enum-told3 .given .1) in
     (n .inside, omega arith, parts.scale-link n)
 
 plan-pays-sub-plan-pays : (t : ℕ) → plan-pays-lts.Need-sub-plan-pays (plan-pays-calls t) (plan-pays-at t) plan-pays.Post
 plan-pays-sub-plan-pays t c =
-    let h = c .before .before .before .before .before .pre .1 in
-    let l = c .before .before .before .before .letter .ensures in
-    let n = plan-node _ _ _ _ _ _ _ (h .3) (h .4) l (c .before .before .enum-told3 .given .1) in
+    let h = c .before .before .before .before .pre .1 in
+    let l = c .before .before .before .letter .ensures in
+    let n = plan-node _ _ _ _ _ _ _ (h .3) (h .4) l (c .before .enum-told3 .given .1) in
     omega (arith, n .some)
 
 plan-pays-plan-pays-requires : (t : ℕ) → plan-pays-lts.Need-plan-pays-requires (plan-pays-calls t) (plan-pays-at t) plan-pays.Post
 plan-pays-plan-pays-requires t c κs =
-    let h = c .before .before .before .before .before .pre .1 in
-    let l = c .before .before .before .before .letter .ensures in
-    let n = plan-node _ _ _ _ _ _ _ (h .3) (h .4) l (c .before .before .enum-told3 .given .1) in
+    let h = c .before .before .before .before .pre .1 in
+    let l = c .before .before .before .letter .ensures in
+    let n = plan-node _ _ _ _ _ _ _ (h .3) (h .4) l (c .before .enum-told3 .given .1) in
     let w = parts.scale-walks n (c .link .ensures) in
     (omega (arith, n .some), (h .0, h .1, h .2, w .0, w .1))
 
-plan-pays-times-requires : (t : ℕ) → plan-pays-lts.Need-times-requires (plan-pays-calls t) (plan-pays-at t) plan-pays.Post
-plan-pays-times-requires t c κs =
-    let h = c .before .before .before .before .before .before .pre .1 in
-    let l = c .before .before .before .before .before .letter .ensures in
-    let n = plan-node _ _ _ _ _ _ _ (h .3) (h .4) l (c .before .before .before .enum-told3 .given .1) in
-    parts.scale-small n (c .before .link .ensures) (c .before .before .amount-value .ensures) (c .plan-pays .ensures)
+plan-pays-add-scaled : (t : ℕ) → plan-pays-lts.Need-add-scaled (plan-pays-calls t) (plan-pays-at t) plan-pays.Post
+plan-pays-add-scaled t c =
+    let h = c .before .before .before .before .before .pre .1 in
+    let l = c .before .before .before .before .letter .ensures in
+    let n = plan-node _ _ _ _ _ _ _ (h .3) (h .4) l (c .before .before .enum-told3 .given .1) in
+    record { fits = omega (arith, n .inside) }
+
+plan-pays-scaled-requires : (t : ℕ) → plan-pays-lts.Need-scaled-requires (plan-pays-calls t) (plan-pays-at t) plan-pays.Post
+plan-pays-scaled-requires t c κs =
+    let h = c .before .before .before .before .before .pre .1 in
+    let l = c .before .before .before .before .letter .ensures in
+    let n = plan-node _ _ _ _ _ _ _ (h .3) (h .4) l (c .before .before .enum-told3 .given .1) in
+    let a = parts.scale-amount n in
+    (h .0, a .0, a .1, parts.scale-small n (c .before .link .ensures) refl (c .plan-pays .ensures))
 
 plan-pays-delay-requires : (t : ℕ) → plan-pays-lts.Need-delay-requires (plan-pays-calls t) (plan-pays-at t) plan-pays.Post
 plan-pays-delay-requires t c κs =
@@ -256,10 +248,10 @@ plan-pays-returns-2 t c =
 
 plan-pays-returns-3 : (t : ℕ) → plan-pays-lts.Need-returns-3 (plan-pays-calls t) (plan-pays-at t) plan-pays.Post
 plan-pays-returns-3 t c =
-    let h = c .before .before .before .before .before .before .before .pre .1 in
-    let l = c .before .before .before .before .before .before .letter .ensures in
-    let n = plan-node _ _ _ _ _ _ _ (h .3) (h .4) l (c .before .before .before .before .enum-told3 .given .1) in
-    arms.scale-arm n (c .before .before .link .ensures) (c .before .before .before .amount-value .ensures) (c .before .plan-pays .ensures) (c .times .ensures)
+    let h = c .before .before .before .before .before .before .pre .1 in
+    let l = c .before .before .before .before .before .letter .ensures in
+    let n = plan-node _ _ _ _ _ _ _ (h .3) (h .4) l (c .before .before .before .enum-told3 .given .1) in
+    arms.scale-arm n (c .before .before .link .ensures) refl (c .before .plan-pays .ensures) (c .scaled .ensures)
 
 plan-pays-returns-4 : (t : ℕ) → plan-pays-lts.Need-returns-4 (plan-pays-calls t) (plan-pays-at t) plan-pays.Post
 plan-pays-returns-4 t c =
@@ -314,12 +306,11 @@ plan-pays-part t =
     (λ c. search needs)
     (plan-pays-transfer-requires t)
     (λ c. search needs)
-    (plan-pays-add-amount-value t)
-    (plan-pays-amount-value-requires t)
     (plan-pays-link-requires t)
     (plan-pays-sub-plan-pays t)
     (plan-pays-plan-pays-requires t)
-    (plan-pays-times-requires t)
+    (plan-pays-add-scaled t)
+    (plan-pays-scaled-requires t)
     (λ c. search needs)
     (plan-pays-delay-requires t)
     (plan-pays-later-requires t)
