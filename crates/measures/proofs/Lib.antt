@@ -14,6 +14,7 @@ pub mod PlanReadings
 pub mod PlanRows
 pub mod Plans
 pub mod Readings
+pub mod RowArms
 pub mod RowLetters
 pub mod RowSums
 pub mod RowsTogether

@@ -8,17 +8,18 @@ use Rattle.language.specs.Rules.Table.{Table, readable}
 use Rattle.language.specs.Rules.Tests.{amountReads, testReads}
 use Rattle.measures.proofs.RowsTogether.{Joins, amount-rows, reading, test-rows}
 use Rattle.measures.specs.Blocks.{AmountBlock, TestBlock}
-use Rattle.measures.specs.Rows.{inWindow, rowReads, rowsOf, rowsRead}
+use Rattle.measures.specs.Rows.{inWindow, isIndex, rowReads, rowsOf, rowsRead}
 use Rattle.measures.specs.Spans.{Seen, windowOf}
 use Rattle.measures.specs.declared.reads.Window.{Window}
 use Rattle.nodes.specs.Found.{amountAt, offsetOf, testAt}
+use Rattle.nodes.specs.Table.{slotAt}
 use lib.Dec.{ltb}
 use lib.IntN.{_+ℤ_, _-ℤ_, negℤ, pos, ℤ}
 use lib.ListN.{length}
 use lib.Signed.{leZ}
 use mathlib.Core.Bool.{Bool, _&&_, and-assoc, and-false, and-true, false, true}
 use mathlib.Core.List.{List}
-use mathlib.Core.Path.{_∙_, _≡_, ap, ap₂, refl, sym}
+use mathlib.Core.Path.{_∙_, _≡_, ap, ap₂, refl, subst, sym}
 use native.Mathlib.Omega.{arith}
 
 -- ---- the window: what can be read from both months
@@ -114,6 +115,10 @@ module _ {w : Window} {nodes : List ℤ} {from to at : ℕ} {reads : Bool} (p : 
             ∙ ap (λ c. reads && (c && rowsRead w nodes (to - (at + 1)) (at + 1))) (sym eb)
             ∙ sym (and-assoc reads b (rowsRead w nodes (to - (at + 1)) (at + 1)));
       }
+
+  -- a row that is no `O`
+  pub passed-other : at < to → isIndex (slotAt nodes at 0) ≡ false → Passed w nodes from to (at + 1) reads
+  passed-other h e = subst (Passed w nodes from to (at + 1)) (and-true reads) (passed-row h (rw e refl))
 
   pub passed-all : to ≤ at → reads ≡ rowsRead w nodes (to - from) from
   unfolding rowsOf

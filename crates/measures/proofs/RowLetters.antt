@@ -16,7 +16,7 @@ byte-of : (x : ℤ) (n : ℕ) → eqZ x (pos n) ≡ true → x ≡ pos n
 byte-of (pos m) n e = ap pos (eqb-true m n e)
 byte-of (negsuc m) n e = absurd (false≢true e)
 
-abbrev indexAmount : AmountLetter → Bool
+abbrev pub indexAmount : AmountLetter → Bool
 indexAmount amount.Number = false
 indexAmount amount.Index = true
 indexAmount amount.Sum = false

@@ -3,6 +3,7 @@ ghost use mathlib.Core.Path.{_≡_};
 ghost use mathlib.Core.Bool.{true};
 ghost use Prim.Native.Nat.{_+_, _≤_, ℕ};
 ghost use lib.IntN.{ℤ};
+ghost use lib.ListN.{length};
 ghost use Rattle.language.specs.Limits.{maxAmount, maxMonths};
 ghost use Rattle.language.specs.Rules.Measures.{latestOf, latestOfTest};
 ghost use Rattle.language.specs.Rules.Table.{Table};
@@ -182,11 +183,10 @@ pub fn measure_plan(
     left: usize,
     low: Month,
     high: Month,
-    labels: usize,
     bounds: &[i64],
 ) -> Measures
     requires { ⌜ PlanReady left (now (now nodes)) at × Near left (low .0) (high .0) × InBounds (now bounds) ⌝ }
-    ensures { λ r. ⌜ ((t : Table) (a z : ℕ) → Seen (low .0) (high .0) labels t a z
+    ensures { λ r. ⌜ ((t : Table) (a z : ℕ) → Seen (low .0) (high .0) (length (now (bounds .entry))) t a z
         → MeasuresOf t a z (boundIn (now (bounds .entry))) (planAt natOf left (now (now (nodes .entry))) at) r) ⌝ }
 {
     let letter = node::plan_kind(nodes, at);
@@ -195,26 +195,26 @@ pub fn measure_plan(
         PlanLetter::Transfer => of_transfer(),
         PlanLetter::Scale => {
             let next = nodes::link(nodes, at, 3);
-            let w = reads::window_of(low, high, labels);
+            let w = reads::window_of(low, high, bounds.len());
             let rows = rows::read_rows(nodes, at + 1, next, w, bounds);
             let m = amount_of(nodes, at + 1, rows.magnitude, bounds);
             if node::is_transfer(nodes, next) {
                 return of_scale(rows, m, of_transfer());
             }
-            let x = measure_plan(nodes, next, left - 1, low, high, labels, bounds);
+            let x = measure_plan(nodes, next, left - 1, low, high, bounds);
             of_scale(rows, m, x)
         }
         PlanLetter::Later => {
             let d = node::delay(nodes, at);
             let low_then = reads::nearer(low, d);
             let high_then = reads::nearer(high, d);
-            let x = measure_plan(nodes, at + 1, left - 1, low_then, high_then, labels, bounds);
+            let x = measure_plan(nodes, at + 1, left - 1, low_then, high_then, bounds);
             of_later(node::months(nodes, at), x)
         }
         PlanLetter::Both => {
             let next = nodes::link(nodes, at, 3);
-            let x = measure_plan(nodes, at + 1, left - 1, low, high, labels, bounds);
-            let y = measure_plan(nodes, next, left - 1, low, high, labels, bounds);
+            let x = measure_plan(nodes, at + 1, left - 1, low, high, bounds);
+            let y = measure_plan(nodes, next, left - 1, low, high, bounds);
             of_both(x, y)
         }
         PlanLetter::Within => {
@@ -223,11 +223,11 @@ pub fn measure_plan(
             let high_then = reads::nearer(high, d);
             let next = nodes::link(nodes, at, 3);
             let other = nodes::link(nodes, at, 4);
-            let w = reads::window_of(low, high_then, labels);
+            let w = reads::window_of(low, high_then, bounds.len());
             let rows = rows::read_rows(nodes, at + 1, next, w, bounds);
             let t = test_of(nodes, at + 1, rows.magnitude, bounds);
-            let x = measure_plan(nodes, next, left - 1, low, high_then, labels, bounds);
-            let y = measure_plan(nodes, other, left - 1, low_then, high_then, labels, bounds);
+            let x = measure_plan(nodes, next, left - 1, low, high_then, bounds);
+            let y = measure_plan(nodes, other, left - 1, low_then, high_then, bounds);
             of_within(node::months(nodes, at), rows, t, x, y)
         }
         PlanLetter::NoPlan => of_nothing(),

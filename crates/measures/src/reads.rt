@@ -1,4 +1,4 @@
-// What a plan may read: the months and labels of a table, and the offsets that can be read from a node.
+// What a plan may read: the offsets that can be read from a node, and the labels of a table.
 ghost use mathlib.Core.Path.{_≡_};
 ghost use lib.IntN.{_-ℤ_};
 ghost use Rattle.integers.specs.Bounded.{Small};
@@ -7,13 +7,6 @@ ghost use Rattle.measures.specs.Rows.{rowReads};
 ghost use Rattle.measures.specs.Spans.{windowOf};
 use crate::node;
 use integers::Month;
-
-// What reads look at in a table: months -h to f, and how many labels.
-pub struct Reach {
-    pub h: i64,
-    pub f: i64,
-    pub labels: usize,
-}
 
 // The offsets that can be read, and how many labels.
 pub struct Window {
@@ -48,7 +41,10 @@ pub fn row_reads(nodes: &&[i64], at: usize, w: Window) -> bool
     if node::is_index(nodes, at) {
         let l = node::label(nodes, at);
         let i = node::offset(nodes, at);
-        return (l < w.labels) & ((w.low <= i.0) & (i.0 <= w.high));
+        if l < w.labels {
+            return (w.low <= i.0) & (i.0 <= w.high);
+        }
+        return false;
     }
     true
 }

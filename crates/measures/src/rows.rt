@@ -2,9 +2,8 @@
 ghost use mathlib.Core.Path.{_≡_};
 ghost use Prim.Native.Nat.{_*_, _-_, _≤_};
 ghost use lib.ListN.{length};
-ghost use Rattle.nodes.specs.Table.{RowIn};
 ghost use Rattle.measures.specs.Magnitudes.{InBounds, boundIn};
-ghost use Rattle.measures.specs.Rows.{rowLatest, rowMagnitude, rowsLatest, rowsMagnitude, rowsRead};
+ghost use Rattle.measures.specs.Rows.{rowsLatest, rowsMagnitude, rowsRead};
 ghost use Rattle.measures.specs.Timing.{latestMonth};
 use crate::first;
 use crate::limit;
@@ -21,35 +20,6 @@ pub struct Rows {
     pub reads: bool,
 }
 
-// What a row reads that is yet to come, else 0.
-fn row_latest(nodes: &&[i64], at: usize) -> u64
-    requires { ⌜ RowIn (now (now nodes)) at ⌝ }
-    ensures { λ r. ⌜ r ≡ latestMonth (rowLatest (now (now (nodes .entry))) at) ⌝ }
-{
-    if node::is_index(nodes, at) {
-        return node::ahead(nodes, at);
-    }
-    0
-}
-
-// What a row adds to the magnitudes of rows.
-fn row_magnitude(nodes: &&[i64], at: usize, bounds: &[i64]) -> u64
-    requires { ⌜ RowIn (now (now nodes)) at ⌝ }
-    ensures { λ r. ⌜ r ≡ rowMagnitude (boundIn (now (bounds .entry))) (now (now (nodes .entry))) at ⌝ }
-{
-    let letter = node::amount_kind(nodes, at);
-    match letter {
-        AmountLetter::Number => limit::capped(magnitude::distance(nodes, at)),
-        AmountLetter::Index => magnitude::bound_of(bounds, node::label(nodes, at)),
-        AmountLetter::Sum => 0,
-        AmountLetter::Difference => 0,
-        AmountLetter::Product => limit::BEYOND,
-        AmountLetter::Quotient => 0,
-        AmountLetter::Choose => limit::BEYOND,
-        AmountLetter::NoAmount => 0,
-    }
-}
-
 // The rows from one on up to another.
 pub fn read_rows(nodes: &&[i64], from: usize, to: usize, w: Window, bounds: &[i64]) -> Rows
     requires { ⌜ (from ≤ to) × (to ≤ 512) × (5 * to ≤ length (now (now nodes))) × InBounds (now bounds) ⌝ }
@@ -63,9 +33,21 @@ pub fn read_rows(nodes: &&[i64], from: usize, to: usize, w: Window, bounds: &[i6
     let mut reads = true;
     let mut at = from;
     while at < to {
-        latest = first::later_of(latest, row_latest(nodes, at));
-        reads = reads & reads::row_reads(nodes, at, w);
-        total += row_magnitude(nodes, at, bounds);
+        let letter = node::amount_kind(nodes, at);
+        match letter {
+            AmountLetter::Number => {
+                total += limit::capped(magnitude::distance(nodes, at));
+            }
+            AmountLetter::Index => {
+                latest = first::later_of(latest, node::ahead(nodes, at));
+                reads = reads & reads::row_reads(nodes, at, w);
+                total += magnitude::bound_of(bounds, node::label(nodes, at));
+            }
+            AmountLetter::Product | AmountLetter::Choose => {
+                total += limit::BEYOND;
+            }
+            _ => {}
+        }
         at += 1;
     }
     Rows {

@@ -87,8 +87,8 @@ module _ (days : List ℤ) (h f : ℤ) (factors bounds values : List ℤ) (today
           regroup true true true false = refl
           regroup true true true true = refl
 
-  pub in-table : (labels : ℕ) → labels ≡ length bounds → tableOk (g .table) ≡ true → monthOk (g .table) today ≡ true → InTable today h f labels bounds
-  in-table labels l t m =
+  pub in-table : tableOk (g .table) ≡ true → monthOk (g .table) today ≡ true → InTable today h f bounds
+  in-table t m =
       let s = span-holds h f factors bounds values t in
       record {
         todayFrom = in-months f today m .0;
@@ -97,7 +97,6 @@ module _ (days : List ℤ) (h f : ℤ) (factors bounds values : List ℤ) (today
         hTo = s .0 .small;
         fFrom = s .1 .natural;
         fTo = s .1 .small;
-        labelled = l;
         bounded = record { within = truth _ (bounds-hold h f factors bounds values t) };
       }
 

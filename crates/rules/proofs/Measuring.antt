@@ -3,6 +3,7 @@ use Prim.Native.Nat.{_+_, _≤_, ℕ}
 use borrow.Author.Tests.{le-leb, lt-leb}
 use lib.Dec.{T, leb}
 use lib.IntN.{_+ℤ_, _-ℤ_, natAbs, negsuc, pos, ℤ}
+use lib.ListN.{length}
 use lib.Signed.{ltZ, nonNeg}
 use mathlib.Core.Bool.{Bool, false, true}
 use mathlib.Core.List.{List, []}
@@ -28,12 +29,12 @@ use Rattle.language.specs.Text.Trees.{Plan}
 use Rattle.measures.proofs.PlanMagnitudes.{plan-within}
 use Rattle.measures.specs.Magnitudes.{boundIn, measuredPlan}
 use Rattle.measures.specs.Spans.{Near, Seen}
-use Rattle.measures.specs.declared.reads.Reach.{Reach}
 use Rattle.nodes.specs.Table.{natOf}
 use Rattle.rules.specs.Answers.{Natural, checkingAnswer}
 use Rattle.rules.specs.Measured.{InTable, measuredBy}
 use Rattle.rules.specs.declared.Checking.the-variants.{Accepted, Refused}
 use Rattle.tables.specs.Given.{tableOf}
+use Rattle.tables.specs.declared.Span.{Span}
 use Rattle.text.specs.declared.Refusal.the-variants.{Length, Magnitude, NotInTime, Reads}
 
 -- a month that is not below zero
@@ -41,7 +42,7 @@ from-zero : (z : ℤ) → T (nonNeg z) → z ≡ pos (natOf z)
 from-zero (pos n) h = refl
 from-zero (negsuc n) h = absurd h
 
-pub few-months : (today : ℤ) (s : Reach) (bounds : List ℤ) → InTable today (s .h) (s .f) (s .labels) bounds → Small today
+pub few-months : (today : ℤ) (s : Span) (bounds : List ℤ) → InTable today (s .h) (s .f) bounds → Small today
 few-months today s bounds h = record { small = omega (arith, h .todayTo) }
 
 -- a number within the limit of amounts as a signed number
@@ -54,7 +55,7 @@ module _ {m : ℕ} (h : m ≤ maxAmount) where
 
 -- ---- the offsets that can be read from today
 
-module _ (today : ℤ) (s : Reach) (bounds : List ℤ) (h : InTable today (s .h) (s .f) (s .labels) bounds) where
+module _ (today : ℤ) (s : Span) (bounds : List ℤ) (h : InTable today (s .h) (s .f) bounds) where
   back-size : natAbs (pos 0 -ℤ s .h) ≤ maxBack
   back-size = omega (arith, natAbs-sub (pos 0) (s .h), h .hTo)
 
@@ -89,7 +90,7 @@ module _ (today : ℤ) (s : Reach) (bounds : List ℤ) (h : InTable today (s .h)
       highRoom = omega (arith, natAbs-sub (s .f) today, h .fTo, h .todayTo);
     })
 
-    pub seen-today : Seen low high (s .labels) (tableOf (s .h) (s .f) [] bounds []) (natOf today) (natOf today)
+    pub seen-today : Seen low high (length bounds) (tableOf (s .h) (s .f) [] bounds []) (natOf today) (natOf today)
     seen-today =
         let e = from-zero today (h .todayFrom) in
         let w = ring ((lit 0 ⊖ var (s .h)) ⊖ lit (natOf today)) (lit 0 ⊖ (var (s .h) ⊕ lit (natOf today))) (omega arith) in
@@ -97,10 +98,10 @@ module _ (today : ℤ) (s : Reach) (bounds : List ℤ) (h : InTable today (s .h)
           order = omega arith;
           least = el ∙ ap₂ _-ℤ_ start-reads e ∙ w;
           greatest = eh ∙ ap₂ _-ℤ_ end-reads e;
-          labelled = h .labelled;
+          labelled = refl;
         }
 
-module _ (today : ℤ) (s : Reach) (bounds : List ℤ) (x : Plan ℕ) (h : InTable today (s .h) (s .f) (s .labels) bounds) where
+module _ (today : ℤ) (s : Span) (bounds : List ℤ) (x : Plan ℕ) (h : InTable today (s .h) (s .f) bounds) where
   abbrev table : Table
   table = tableOf (s .h) (s .f) [] bounds []
 

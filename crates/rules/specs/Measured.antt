@@ -2,10 +2,8 @@
 use Prim.Native.Nat.{_≤_, ℕ}
 use lib.Dec.{T}
 use lib.IntN.{natAbs, ℤ}
-use lib.ListN.{length}
 use lib.Signed.{nonNeg}
 use mathlib.Core.List.{List, []}
-use mathlib.Core.Path.{_≡_}
 use Rattle.language.specs.Answer.{Answer, _>>_, got}
 use Rattle.language.specs.Calls.{Checked, meetsRules}
 use Rattle.language.specs.Limits.{maxBack, maxMonths}
@@ -24,12 +22,11 @@ abbrev pub measuredBy : ℤ → ℤ → List ℤ → ℕ → Plan ℕ → Answer
 measuredBy h f bounds today x = meetsRules (tableOf h f [] bounds []) today x >> got (checkedOf (tableOf h f [] bounds []) x)
 
 -- the months and bounds of a table that keeps the rules, and a month of it
-pub record InTable (today h f : ℤ) (labels : ℕ) (bounds : List ℤ) : Type 0 where
+pub record InTable (today h f : ℤ) (bounds : List ℤ) : Type 0 where
   pub todayFrom : T (nonNeg today)
   pub todayTo : natAbs today ≤ maxMonths
   pub hFrom : T (nonNeg h)
   pub hTo : natAbs h ≤ maxBack
   pub fFrom : T (nonNeg f)
   pub fTo : natAbs f ≤ maxMonths
-  pub labelled : labels ≡ length bounds
   pub bounded : InBounds bounds

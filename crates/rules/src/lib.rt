@@ -13,7 +13,6 @@ ghost use Rattle.rules.specs.Standing.{Stands};
 ghost use Rattle.text.specs.Room.{Roomy};
 use integers::Month;
 use integers::Pence;
-use measures::reads::Reach;
 use tables::Span;
 use tables::fill::Filling;
 use text::Reading;
@@ -25,17 +24,17 @@ pub enum Checking {
 }
 
 // Length 10, reads 11, known in time 7, magnitude 6.
-pub fn measure(nodes: &[i64], today: Month, reach: Reach, bounds: &[i64]) -> Checking
-    requires { ⌜ PlanReady 32 (now nodes) 0 × InTable (today .0) (reach .h) (reach .f) (reach .labels) (now bounds) ⌝ }
-    ensures { λ r. ⌜ (checkingAnswer r ≡ measuredBy (reach .h) (reach .f) (now (bounds .entry)) (natOf (today .0)) (planAt natOf 32 (now (nodes .entry)) 0)) × Natural r ⌝ }
+pub fn measure(nodes: &[i64], today: Month, span: Span, bounds: &[i64]) -> Checking
+    requires { ⌜ PlanReady 32 (now nodes) 0 × InTable (today .0) (span .h) (span .f) (now bounds) ⌝ }
+    ensures { λ r. ⌜ (checkingAnswer r ≡ measuredBy (span .h) (span .f) (now (bounds .entry)) (natOf (today .0)) (planAt natOf 32 (now (nodes .entry)) 0)) × Natural r ⌝ }
 {
     // The offsets that can be read from today.
-    let low = measures::reads::nearer(Month(0 - reach.h), today);
-    let high = measures::reads::nearer(Month(reach.f), today);
-    let m = measures::plan::measure_plan(&nodes, 0, 32, low, high, reach.labels, bounds);
+    let low = measures::reads::nearer(Month(0 - span.h), today);
+    let high = measures::reads::nearer(Month(span.f), today);
+    let m = measures::plan::measure_plan(&nodes, 0, 32, low, high, bounds);
     let length = Month(m.length as i64);
     let last = integers::later(today, length);
-    if reach.f < last.0 {
+    if span.f < last.0 {
         return Checking::Refused(Refusal::Length);
     }
     if m.reads {
@@ -75,16 +74,7 @@ pub fn accept(
             if tables::settings_ok(days) {
                 let filling = tables::fill::fill_rows(nodes, count, days);
                 match filling {
-                    Filling::Filled => measure(
-                        nodes,
-                        today,
-                        Reach {
-                            h: span.h,
-                            f: span.f,
-                            labels: bounds.len(),
-                        },
-                        bounds,
-                    ),
+                    Filling::Filled => measure(nodes, today, span, bounds),
                     Filling::Unset => Checking::Refused(Refusal::Settings),
                 }
             } else {

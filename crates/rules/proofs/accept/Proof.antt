@@ -1,8 +1,7 @@
 use borrow.Author.Needs.{needs}
 use lib.IntN.{pos}
-use lib.ListN.{length}
 use mathlib.Core.Bool.{_&&_}
-use mathlib.Core.Path.{_∙_, ap, ap₂, refl, subst, sym}
+use mathlib.Core.Path.{_∙_, ap, ap₂, subst, sym}
 use mir.Facts.{toZ-ofZ}
 use mir.Syntax.{w64}
 use mir.Val.{SFits}
@@ -12,9 +11,6 @@ use Rattle.rules.proofs.Filling.{set-is, standing-rows, standing-skips}
 use Rattle.rules.proofs.accept.Statement.{statement}
 use Rattle.rules.proofs.accept.Tie as tie
 use Rattle.rules.specs.Answers.{givenOf}
-use Rattle.rules.specs.Measured.{measuredBy}
-use Rattle.nodes.specs.Found.{planAt}
-use Rattle.nodes.specs.Table.{natOf}
 use Rattle.tables.proofs.Spans.{both-true}
 use Rattle.tables.specs.Fill.{FillIs}
 use Rattle.text.specs.declared.Refusal.the-variants.{Caller, Settings, Table}
@@ -39,17 +35,16 @@ enum-told c = search needs
 
 measure-requires : tie.Need-measure-requires
 measure-requires c κs =
-    let s = c .before .before .before .before .before .before .before .before .before .before .before .before .before .before .before in
+    let s = c .before .before .before .before .before .before .before .before .before .before .before .before .before .before in
     let a = s .args in
     let f : SFits w64 (a .span .f) = search needs in
-    let h : SFits w64 (a .span .h) = search needs in
     let d : SFits w64 (a .today .0) = search needs in
-    let m = sym (ap (λ b. b && a .caller) (c .before .before .before .before .before .before .before .before .before .before .month-ok .ensures ∙ ap₂ (λ y z. between (pos 0) y z) (toZ-ofZ f) (toZ-ofZ d))) ∙ c .before .before .before .before .before .before .before .before .before .if2 .taken in
-    let t = sym (c .before .before .before .before .before .before .before .before .before .before .before .before .before .before .table-ok .ensures) ∙ c .before .before .before .before .before .before .before .before .before .before .before .before .before .if1 .taken in
-    let e = sym (c .before .before .before .before .before .before .before .before .settings-ok .ensures) ∙ c .before .before .before .before .before .before .before .if3 .taken in
-    let u = subst (FillIs (a .days .now) (a .count) (a .nodes .now) (c .before .before .before .before .before .fill-rows .last .0)) (c .before .before .enum-told .given .1) (c .before .before .before .before .before .fill-rows .ensures) in (
-      measure-ready (a .days .now) (a .span .h) (a .span .f) (a .factors .now) (a .bounds .now) (a .values .now) (a .today .0) (a .caller) (a .count) (a .nodes .now) (c .before .before .before .before .before .fill-rows .last .0) t m e u (s .pre),
-      rw (toZ-ofZ f, toZ-ofZ h) (in-table (a .days .now) (a .span .h) (a .span .f) (a .factors .now) (a .bounds .now) (a .values .now) (a .today .0) (a .caller) (s .pre .plan) (length (a .bounds .now)) refl t (both-true _ (a .caller) m .0)),
+    let m = sym (ap (λ b. b && a .caller) (c .before .before .before .before .before .before .before .before .before .month-ok .ensures ∙ ap₂ (λ y z. between (pos 0) y z) (toZ-ofZ f) (toZ-ofZ d))) ∙ c .before .before .before .before .before .before .before .before .if2 .taken in
+    let t = sym (c .before .before .before .before .before .before .before .before .before .before .before .before .before .table-ok .ensures) ∙ c .before .before .before .before .before .before .before .before .before .before .before .before .if1 .taken in
+    let e = sym (c .before .before .before .before .before .before .before .settings-ok .ensures) ∙ c .before .before .before .before .before .before .if3 .taken in
+    let u = subst (FillIs (a .days .now) (a .count) (a .nodes .now) (c .before .before .before .before .fill-rows .last .0)) (c .before .enum-told .given .1) (c .before .before .before .before .fill-rows .ensures) in (
+      measure-ready (a .days .now) (a .span .h) (a .span .f) (a .factors .now) (a .bounds .now) (a .values .now) (a .today .0) (a .caller) (a .count) (a .nodes .now) (c .before .before .before .before .fill-rows .last .0) t m e u (s .pre),
+      in-table (a .days .now) (a .span .h) (a .span .f) (a .factors .now) (a .bounds .now) (a .values .now) (a .today .0) (a .caller) (s .pre .plan) t (both-true _ (a .caller) m .0),
     )
 
 enum-told-2 : tie.Need-enum-told-2
@@ -60,17 +55,16 @@ same-length c = search needs
 
 returns : tie.Need-returns
 returns c =
-    let s = c .before .before .before .before .before .before .before .before .before .before .before .before .before .before .before .before in
+    let s = c .before .before .before .before .before .before .before .before .before .before .before .before .before .before .before in
     let a = s .args in
     let f : SFits w64 (a .span .f) = search needs in
-    let h : SFits w64 (a .span .h) = search needs in
     let d : SFits w64 (a .today .0) = search needs in
-    let m = sym (ap (λ b. b && a .caller) (c .before .before .before .before .before .before .before .before .before .before .before .month-ok .ensures ∙ ap₂ (λ y z. between (pos 0) y z) (toZ-ofZ f) (toZ-ofZ d))) ∙ c .before .before .before .before .before .before .before .before .before .before .if2 .taken in
-    let t = sym (c .before .before .before .before .before .before .before .before .before .before .before .before .before .before .before .table-ok .ensures) ∙ c .before .before .before .before .before .before .before .before .before .before .before .before .before .before .if1 .taken in
-    let e = sym (c .before .before .before .before .before .before .before .before .before .settings-ok .ensures) ∙ c .before .before .before .before .before .before .before .before .if3 .taken in
-    let u = subst (FillIs (a .days .now) (a .count) (a .nodes .now) (c .before .before .before .before .before .before .fill-rows .last .0)) (c .before .before .before .enum-told .given .1) (c .before .before .before .before .before .before .fill-rows .ensures) in
-    accept-is (a .days .now) (a .span .h) (a .span .f) (a .factors .now) (a .bounds .now) (a .values .now) (a .today .0) (a .caller) (a .count) (a .nodes .now) (c .before .before .before .before .before .before .fill-rows .last .0) t m e u
-    (c .measure .ensures .0 ∙ ap₂ (λ y z. measuredBy y z (a .bounds .now) (natOf (a .today .0)) (planAt natOf 32 (c .before .before .before .before .before .before .fill-rows .last .0) 0)) (toZ-ofZ h) (toZ-ofZ f))
+    let m = sym (ap (λ b. b && a .caller) (c .before .before .before .before .before .before .before .before .before .before .month-ok .ensures ∙ ap₂ (λ y z. between (pos 0) y z) (toZ-ofZ f) (toZ-ofZ d))) ∙ c .before .before .before .before .before .before .before .before .before .if2 .taken in
+    let t = sym (c .before .before .before .before .before .before .before .before .before .before .before .before .before .before .table-ok .ensures) ∙ c .before .before .before .before .before .before .before .before .before .before .before .before .before .if1 .taken in
+    let e = sym (c .before .before .before .before .before .before .before .before .settings-ok .ensures) ∙ c .before .before .before .before .before .before .before .if3 .taken in
+    let u = subst (FillIs (a .days .now) (a .count) (a .nodes .now) (c .before .before .before .before .before .fill-rows .last .0)) (c .before .before .enum-told .given .1) (c .before .before .before .before .before .fill-rows .ensures) in
+    accept-is (a .days .now) (a .span .h) (a .span .f) (a .factors .now) (a .bounds .now) (a .values .now) (a .today .0) (a .caller) (a .count) (a .nodes .now) (c .before .before .before .before .before .fill-rows .last .0) t m e u
+    (c .measure .ensures .0)
     (c .measure .ensures .1)
 
 same-length-2 : tie.Need-same-length-2

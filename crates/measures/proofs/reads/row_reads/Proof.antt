@@ -16,27 +16,26 @@ offset-requires c κs = search needs
 
 returns : tie.Need-returns
 returns c =
-    let the-w-low = c .before .before .before .before .before .before .before .before .before .before .before .before .before .args .w .low in
-    let low : SFits w64 the-w-low = search needs in
-    let the-w-high = c .before .before .before .before .before .before .before .before .before .before .before .before .before .args .w .high in
-    let high : SFits w64 the-w-high = search needs in
-    let f : SFits w64 (c .before .before .before .before .before .before .before .before .before .offset .result .0) = search needs in
-    let the-w = c .before .before .before .before .before .before .before .before .before .before .before .before .before .args .w in
-    let the-nodes = c .before .before .before .before .before .before .before .before .before .before .before .before .before .args .nodes .now .now in
-    let the-at = c .before .before .before .before .before .before .before .before .before .before .before .before .before .args .at in
-    let is-index-is = c .before .before .before .before .before .before .before .before .before .before .before .before .is-index .ensures in
-    let branch = c .before .before .before .before .before .before .before .before .before .before .before .if1 .taken in
-    let label-is = c .before .before .before .before .before .before .before .before .before .before .label .ensures in
-    let offset-is = c .before .before .before .before .before .before .before .before .before .offset .ensures in
-    laws.row-index the-w the-nodes the-at is-index-is branch low high f label-is offset-is
+    let s = c .before .before .before .before .before .before .before .before .before .before .before .before .before .before in
+    let low : SFits w64 (s .args .w .low) = search needs in
+    let high : SFits w64 (s .args .w .high) = search needs in
+    let f : SFits w64 (c .before .before .before .before .before .before .before .before .before .before .offset .result .0) = search needs in
+    let i = c .before .before .before .before .before .before .before .before .before .before .before .before .before .is-index .ensures in
+    let t = c .before .before .before .before .before .before .before .before .before .before .before .before .if1 .taken in
+    let l = c .before .before .before .before .before .before .before .before .before .before .before .label .ensures in
+    let o = c .before .before .before .before .before .before .before .before .before .before .offset .ensures in
+    laws.row-index (s .args .w) (s .args .nodes .now .now) (s .args .at) i t l low high f o (c .before .before .before .before .before .before .before .before .if2 .taken)
 
 returns-2 : tie.Need-returns-2
 returns-2 c =
-    let the-w = c .before .before .args .w in
-    let the-nodes = c .before .before .args .nodes .now .now in
-    let the-at = c .before .before .args .at in
-    laws.row-other the-w the-nodes the-at (c .before .is-index .ensures) (c .if1 .left)
+    let s = c .before .before .before .before .before .before in
+    laws.row-unknown (s .args .w) (s .args .nodes .now .now) (s .args .at) (c .before .before .before .before .before .is-index .ensures) (c .before .before .before .before .if1 .taken) (c .before .before .before .label .ensures) (c .if2 .left)
+
+returns-3 : tie.Need-returns-3
+returns-3 c =
+    let s = c .before .before in
+    laws.row-other (s .args .w) (s .args .nodes .now .now) (s .args .at) (c .before .is-index .ensures) (c .if1 .left)
 
 pub row-reads-spec : {M : Type 1} → statement M
 row-reads-spec =
-    tie.close (tie.spec is-index-requires label-requires offset-requires returns returns-2)
+    tie.close (tie.spec is-index-requires label-requires offset-requires returns returns-2 returns-3)
