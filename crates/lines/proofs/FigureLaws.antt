@@ -6,13 +6,13 @@ use mathlib.Core.List.{List, _∷_}
 use mathlib.Core.Logic.{inl, inr}
 use mathlib.Core.Path.{_∙_, _≡_, ap, subst, sym}
 use native.Mathlib.Omega.{arith}
+use Rattle.fields.proofs.NumberLaws.{led-natural, minus-some, number-minus, number-plus, plus-some}
+use Rattle.fields.proofs.Positions.{head-ne, head-none, up-more}
+use Rattle.fields.specs.Numbers.{NaturalIs, NumberIs, Run}
+use Rattle.fields.specs.Positions.{upTo}
+use Rattle.fields.specs.declared.numbers.Natural.the-variants.{Plain}
+use Rattle.fields.specs.declared.numbers.Number.the-variants.{Is}
 use Rattle.lines.specs.Figures.{NoMinus, StartIs}
-use Rattle.text.proofs.NumberLaws.{led-natural, minus-some, number-minus, number-plus, plus-some}
-use Rattle.text.proofs.Positions.{head-ne, head-none, up-more}
-use Rattle.text.specs.Numbers.{NaturalIs, NumberIs, Run}
-use Rattle.text.specs.Positions.{upTo}
-use Rattle.text.specs.declared.numbers.Natural.the-variants.{Plain}
-use Rattle.text.specs.declared.numbers.Number.the-variants.{Is}
 
 -- ---- where the digits start
 

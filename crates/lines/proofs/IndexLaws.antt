@@ -10,6 +10,7 @@ use mathlib.Core.Path.{_∙_, _≡_, ap, ap₂, refl, subst, sym}
 use mir.Syntax.{w64}
 use mir.Val.{SFits, ofZ}
 use native.Mathlib.Omega.{arith}
+use Rattle.fields.specs.Positions.{fieldsFrom, upTo}
 use Rattle.integers.proofs.Bits.{same-bits}
 use Rattle.integers.specs.Equal.{eqZ}
 use Rattle.language.proofs.Truth.{truth}
@@ -20,7 +21,6 @@ use Rattle.lines.proofs.LineParts.{OnlyTwo, behind-word, only-two, othe
 use Rattle.lines.specs.Indexes.{IndexAt, indexNumbers}
 use Rattle.lines.specs.Numbers.{First, Short, Stored}
 use Rattle.lines.specs.Parts.{wordedBy}
-use Rattle.text.specs.Positions.{fieldsFrom, upTo}
 
 abbrev pub indexWord : List ℕ
 indexWord = 105 ∷ 110 ∷ 100 ∷ 101 ∷ 120 ∷ []

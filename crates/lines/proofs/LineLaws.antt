@@ -9,12 +9,12 @@ use mathlib.Core.List.{List, [], _∷_}
 use mathlib.Core.Path.{_∙_, _≡_, ap, refl, sym}
 use native.Mathlib.Decide.{decLt}
 use native.Mathlib.Omega.{arith}
+use Rattle.fields.proofs.Positions.{drop-at-index}
 use Rattle.language.proofs.Acceptance.{no-answer}
 use Rattle.language.specs.Answer.{Answer, _>>=_, _>>_, got, refused, require}
 use Rattle.language.specs.Sheet.{linesOf, sameBytes}
 use Rattle.language.specs.Text.Fields.{inFront, splitAt}
 use Rattle.lines.specs.Lines.{LineFrom, NoFeed, endsWell, lineOf, linesIn}
-use Rattle.text.proofs.Positions.{drop-at-index}
 
 -- ---- one line, by the next byte
 module _ (text : List ℕ) (i : ℕ) where

@@ -8,6 +8,8 @@ use mathlib.Core.List.{List, [], _∷_}
 use mathlib.Core.Option.{Option, none, some}
 use mathlib.Core.Path.{_∙_, _≡_, ap, ap₂, refl, subst, sym}
 use native.Mathlib.Omega.{arith}
+use Rattle.fields.proofs.Positions.{at-start, first-field, from-behind, from-inside, up-length}
+use Rattle.fields.specs.Positions.{fieldsFrom, upTo}
 use Rattle.language.proofs.Truth.{and-e, truth}
 use Rattle.language.specs.Answer.{Answer, _>>=_, got, refused}
 use Rattle.language.specs.Sheet.{numbers, sameBytes, sheetNumber, twoOf, worded}
@@ -19,8 +21,6 @@ use Rattle.lines.proofs.NumberFields.{no-numbers}
 use Rattle.lines.specs.Lines.{lineOf, linesIn}
 use Rattle.lines.specs.Numbers.{First, Short, Stored}
 use Rattle.lines.specs.Parts.{LineIs, ListAt, Missing, PairAt, PlanAt, numbersBehind, wordedBy}
-use Rattle.text.proofs.Positions.{at-start, first-field, from-behind, from-inside, up-length}
-use Rattle.text.specs.Positions.{fieldsFrom, upTo}
 
 -- ---- its bytes
 line-length : (l : List ℕ) → length (lineOf l) ≤ length l

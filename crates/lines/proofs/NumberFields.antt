@@ -7,14 +7,14 @@ use mathlib.Core.List.{List, [], _++_, _∷_, append-assoc, append-nil}
 use mathlib.Core.Option.{Option, none, some}
 use mathlib.Core.Path.{_∙_, _≡_, ap, refl, sym}
 use native.Mathlib.Omega.{arith}
+use Rattle.fields.proofs.Positions.{first-field, from-behind, up-fits}
+use Rattle.fields.specs.Numbers.{BeyondZ, Signed}
+use Rattle.fields.specs.Positions.{fieldsFrom, upTo}
 use Rattle.language.specs.Answer.{Answer, _>>=_, got, refused}
 use Rattle.language.specs.Limits.{maxAmount}
 use Rattle.language.specs.Sheet.{numbers, sheetNumber}
 use Rattle.language.specs.Text.Number.{readNumber}
 use Rattle.lines.specs.Numbers.{First, Short, Stored}
-use Rattle.text.proofs.Positions.{first-field, from-behind, up-fits}
-use Rattle.text.specs.Numbers.{BeyondZ, Signed}
-use Rattle.text.specs.Positions.{fieldsFrom, upTo}
 
 -- ---- one field
 module _ (line : List ℕ) (place : ℕ) (h : place ≤ length line) where

@@ -7,9 +7,9 @@ use mathlib.Core.Bool.{Bool, _&&_, false, true}
 use mathlib.Core.List.{List, [], _∷_}
 use mathlib.Core.Path.{_∙_, _≡_, ap, ap₂, refl, sym}
 use native.Mathlib.Omega.{arith}
+use Rattle.fields.proofs.Positions.{drop-at-index, up-comma, up-end, up-more}
+use Rattle.fields.specs.Positions.{upTo}
 use Rattle.language.specs.Sheet.{sameBytes}
-use Rattle.text.proofs.Positions.{drop-at-index, up-comma, up-end, up-more}
-use Rattle.text.specs.Positions.{upTo}
 
 module _ (line word : List ℕ) (i : ℕ) where
   -- from byte i on, the word and the field are the same

@@ -4,10 +4,10 @@ use lib.ListN.{getD, length}
 use mathlib.Core.List.{List}
 use mathlib.Core.Logic.{_⊎_}
 use mathlib.Core.Path.{_≡_}
+use Rattle.fields.specs.Numbers.{Run}
 use Rattle.language.specs.Text.Number.{byte}
 use Rattle.lines.specs.declared.figures.Short.{Short}
 use Rattle.lines.specs.declared.figures.Short.the-variants.{Ended, Other}
-use Rattle.text.specs.Numbers.{Run}
 
 -- a row that did not end in the bytes looked at tells nothing
 abbrev pub ShortIs : List ℕ → ℕ → Short → Type 0

@@ -4,6 +4,7 @@ use lib.IntN.{natAbs, ℤ}
 use lib.ListN.{length, take}
 use mathlib.Core.List.{List, [], _++_, _∷_}
 use mathlib.Core.Path.{_≡_}
+use Rattle.fields.specs.Positions.{fieldsFrom}
 use Rattle.language.specs.Answer.{Answer, _>>=_, got, refused}
 use Rattle.language.specs.Limits.{maxAmount}
 use Rattle.language.specs.Sheet.{numbers}
@@ -11,7 +12,6 @@ use Rattle.lines.specs.declared.numbers.Numbers.{Numbers}
 use Rattle.lines.specs.declared.numbers.Numbers.the-variants as answer
 use Rattle.lines.specs.declared.numbers.Two.{Two}
 use Rattle.lines.specs.declared.numbers.Two.the-variants as two
-use Rattle.text.specs.Positions.{fieldsFrom}
 
 -- n numbers were read; where there is room for all, the list holds them from place `from` on
 pub record Stored (line : List ℕ) (at : ℕ) (before after : List ℤ) (from n : ℕ) : Type 0 where

@@ -3,11 +3,11 @@ ghost use mathlib.Core.Bool.{true};
 ghost use mathlib.Core.Path.{_≡_};
 ghost use Prim.Native.Nat.{_+_, _≤_};
 ghost use lib.ListN.{drop, getD, length};
+ghost use Rattle.fields.specs.Numbers.{NumberIs};
+ghost use Rattle.fields.specs.Positions.{upTo};
 ghost use Rattle.lines.specs.Figures.{ShortIs, StartIs};
-ghost use Rattle.text.specs.Numbers.{NumberIs};
-ghost use Rattle.text.specs.Positions.{upTo};
-use text::numbers;
-use text::numbers::Number;
+use fields::numbers;
+use fields::numbers::Number;
 
 // A row of at most seven digits, or another.
 pub enum Short {

@@ -4,8 +4,8 @@ ghost use Prim.Native.Nat.{_+_, _≤_};
 ghost use lib.ListN.{length};
 ghost use Rattle.lines.specs.Numbers.{NumbersAre, TwoAre};
 use crate::figures;
-use text::numbers;
-use text::numbers::Number;
+use fields::numbers;
+use fields::numbers::Number;
 
 // How many numbers there are, or that one is malformed or too far from zero.
 pub enum Numbers {

@@ -1,7 +1,7 @@
 // A line's first word.
 ghost use mathlib.Core.Path.{_≡_};
+ghost use Rattle.fields.specs.Positions.{upTo};
 ghost use Rattle.language.specs.Sheet.{sameBytes};
-ghost use Rattle.text.specs.Positions.{upTo};
 
 // Whether the first field of a line is this word.
 pub fn has_word(line: &[u8], word: &[u8]) -> bool

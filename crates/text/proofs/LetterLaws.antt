@@ -7,9 +7,9 @@ use mathlib.Core.List.{List, [], _∷_}
 use mathlib.Core.Option.{Option, none, some}
 use mathlib.Core.Path.{_∙_, _≡_, ap₂, refl, sym}
 use native.Mathlib.Omega.{arith}
+use Rattle.fields.specs.Fields.{classesOfThree}
 use Rattle.language.proofs.Truth.{and-e}
 use Rattle.language.specs.Text.Letters.{Class, Form, Kind, Letter, amount, kindOf, letterAmong, payoffForm, planForm, root, rootsThen, rowOf, test}
-use Rattle.text.specs.Fields.{classesOfThree}
 use Rattle.text.specs.Letters.{BareIs, ShapeFor, ShapeIs, Shaped, bareShape, formOf, kindNumber, kinds}
 use Rattle.text.specs.declared.letters.Shape.{Shape}
 use Rattle.text.specs.declared.letters.TextForm.{TextForm}

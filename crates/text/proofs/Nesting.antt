@@ -6,13 +6,13 @@ use lib.ListN.{getD, length, take}
 use mathlib.Core.Bool.{cond}
 use mathlib.Core.List.{List, [], _++_, _∷_}
 use mathlib.Core.Path.{_≡_}
+use Rattle.fields.specs.Positions.{restAt}
 use Rattle.language.specs.Answer.{Answer}
 use Rattle.language.specs.Text.Classes.{Field}
 use Rattle.language.specs.Text.Letters.{Form, Kind, Letter, rowOf}
 use Rattle.language.specs.Text.Reader.{Read, Trees, end, give, node, readTrees, thenRead}
 use Rattle.nodes.specs.Rows.{countOf, rowFor, rows, slotsOf}
 use Rattle.text.specs.Letters.{kindAt, kinds}
-use Rattle.text.specs.Positions.{restAt}
 use Rattle.text.specs.Whole.{wholeText}
 
 module _ {P : Type 0} where

@@ -9,6 +9,7 @@ use mathlib.Core.Bool.{Bool, false, true}
 use mathlib.Core.List.{List, [], _++_, _∷_, append-assoc, append-nil}
 use mathlib.Core.Path.{_∙_, _≡_, ap, ap₂, refl, sym}
 use native.Mathlib.Omega.{arith}
+use Rattle.fields.specs.Positions.{restAt}
 use Rattle.language.specs.Answer.{Answer, got, refused}
 use Rattle.language.specs.Text.Classes.{Field}
 use Rattle.language.specs.Text.Letters.{Form, Kind, Letter, rowOf}
@@ -16,7 +17,6 @@ use Rattle.language.specs.Text.Reader.{Read, Rest, Trees, end, give, node, read
 use Rattle.nodes.proofs.Laid.{row-length, rows-length}
 use Rattle.nodes.specs.Rows.{behindFirst, countOf, firstCount, lastSlots, linkTo, rowFor, rows, slotsOf}
 use Rattle.text.specs.Letters.{kindAt, kinds}
-use Rattle.text.specs.Positions.{restAt}
 use Rattle.text.specs.Rows.{RowBegun, openRow}
 use Rattle.text.specs.Trees.{Begun}
 use Rattle.text.specs.Whole.{Grown}

@@ -10,16 +10,16 @@ use mathlib.Core.Option.{Option, none, some}
 use mathlib.Core.Path.{_∙_, _≡_, ap, refl, sym}
 use native.Mathlib.Numerals.{sub-one}
 use native.Mathlib.Omega.{arith}
+use Rattle.fields.proofs.Positions.{first-field, from-behind}
+use Rattle.fields.specs.Fields.{Four, Malformed, classesOfThree}
+use Rattle.fields.specs.Positions.{fieldsFrom, restAt, upTo}
 use Rattle.language.specs.Answer.{got, refused}
 use Rattle.language.specs.Text.Classes.{Field}
 use Rattle.language.specs.Text.Letters.{Form, Kind, Letter, amount, kindOf, letterAmong, letterIn, root, rootsThen, rowOf, sameKind, test}
 use Rattle.language.specs.Text.Reader.{Rest, give, node, nodeLetter, readBeside, readFields, readTrees, thenRead}
-use Rattle.text.specs.Fields.{Four, Malformed, classesOfThree}
 use Rattle.text.specs.Letters.{ShapeFor, ShapeIs, Shaped, kindAt, kindNumber}
-use Rattle.text.specs.Positions.{fieldsFrom, restAt, upTo}
 use Rattle.text.specs.Trees.{Begun, Refuses}
 use Rattle.text.specs.declared.letters.Shape.{Shape}
-use Rattle.text.proofs.Positions.{first-field, from-behind}
 
 -- ---- kinds
 

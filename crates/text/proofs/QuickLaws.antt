@@ -8,11 +8,15 @@ use mathlib.Core.Bool.{Bool, cond}
 use mathlib.Core.List.{List, [], _∷_}
 use mathlib.Core.Path.{_∙_, _≡_, ap, ap₂, refl, subst, sym}
 use native.Mathlib.Omega.{arith}
+use Rattle.fields.proofs.FieldLaws.{four-none}
+use Rattle.fields.proofs.Positions.{up-comma, up-more}
+use Rattle.fields.specs.Classes.{classOf}
+use Rattle.fields.specs.Fields.{SlotsTried, classesOfThree, classesOfTwo}
+use Rattle.fields.specs.Positions.{upTo}
+use Rattle.fields.specs.declared.slots.Slots.the-variants.{Filled, Unfilled}
+use Rattle.fields.specs.declared.slots.Slots.{Slots}
 use Rattle.language.specs.Text.Letters.{AmountLetter, Form, PayoffLetter, PlanLetter, amountRow, letterAmong, ofAmount, ofRoot, payoffForm, payoffRow, planForm, planRow, rowOf, testRow}
-use Rattle.text.specs.Classes.{classOf}
-use Rattle.text.specs.Fields.{SlotsTried, classesOfThree, classesOfTwo}
 use Rattle.text.specs.Letters.{BareIs, ShapeIs, bareShape, formOf, kindAt, kinds}
-use Rattle.text.specs.Positions.{upTo}
 use Rattle.text.specs.Rows.{FillIs, QuickIs}
 use Rattle.text.specs.Trees.{Opens}
 use Rattle.text.specs.declared.letters.Shape.{Shape}
@@ -20,12 +24,8 @@ use Rattle.text.specs.declared.letters.TextForm.{TextForm}
 use Rattle.text.specs.declared.letters.TextForm.the-variants.{Payoff, Plan}
 use Rattle.text.specs.declared.quick.Quick.{Quick}
 use Rattle.text.specs.declared.quick.Quick.the-variants.{Opened}
-use Rattle.text.specs.declared.slots.Slots.{Slots}
-use Rattle.text.specs.declared.slots.Slots.the-variants.{Filled, Unfilled}
-use Rattle.text.proofs.FieldLaws.{four-none}
 use Rattle.text.proofs.LetterLaws.{known}
 use Rattle.text.proofs.OpenLaws.{open-done}
-use Rattle.text.proofs.Positions.{up-comma, up-more}
 use Rattle.text.proofs.RowLaws.{with-zeros}
 
 -- ---- the rows of letters with fields

@@ -9,11 +9,11 @@ use mathlib.Core.Bool.{Bool, cond, false, true}
 use mathlib.Core.List.{List, [], _++_, _∷_, append-nil}
 use mathlib.Core.Path.{_∙_, _≡_, ap, refl, sym}
 use native.Mathlib.Omega.{arith}
+use Rattle.fields.specs.Fields.{slotAt}
 use Rattle.language.specs.Text.Classes.{Field}
 use Rattle.language.specs.Text.Letters.{Letter}
 use Rattle.language.specs.Text.Reader.{Trees, end, node}
 use Rattle.nodes.specs.Rows.{behindFirst, lastSlots, linkTo, rowFor, slotsOf}
-use Rattle.text.specs.Fields.{slotAt}
 use Rattle.text.specs.Rows.{openRow, rowWith}
 use Rattle.text.specs.declared.trees.Head.{Head}
 

@@ -5,15 +5,15 @@ use lib.IntN.{ℤ}
 use lib.ListN.{length}
 use mathlib.Core.List.{List}
 use mathlib.Core.Path.{_∙_, _≡_, ap, refl}
+use Rattle.fields.proofs.Positions.{at-start, first-field, from-behind}
+use Rattle.fields.specs.Positions.{fieldsFrom}
 use Rattle.language.specs.Answer.{Answer, refused}
 use Rattle.language.specs.Text.Letters.{Form}
 use Rattle.language.specs.Text.Reader.{Trees, atEnd, readText, toTheEnd}
-use Rattle.text.specs.Positions.{fieldsFrom}
 use Rattle.text.specs.ReadInto.{CountIs, ReadInto, Stands}
 use Rattle.text.specs.Whole.{Grown, wholeText}
 use Rattle.text.specs.declared.Reading.{Reading}
 use Rattle.text.specs.declared.Reading.the-variants.{Nodes, Refused}
-use Rattle.text.proofs.Positions.{at-start, first-field, from-behind}
 
 module _ {P : Type 0} (form : Form P) (text : List ℕ) where
   pub text-long : form .bytes < length text → readText form text ≡ refused 1

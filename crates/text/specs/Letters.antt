@@ -5,9 +5,9 @@ use mathlib.Core.Bool.{cond}
 use mathlib.Core.List.{List, [], _∷_}
 use mathlib.Core.Option.{Option, none, some}
 use mathlib.Core.Path.{_≡_}
+use Rattle.fields.specs.Fields.{classesOfThree}
 use Rattle.language.specs.Text.Letters.{Form, Kind, Letter, PayoffLetter, PlanLetter, amount, kindOf, letterAmong, payoffForm, planForm, root, rootsThen, rowOf, test}
 use Rattle.language.specs.Text.Number.{byte}
-use Rattle.text.specs.Fields.{classesOfThree}
 use Rattle.text.specs.declared.letters.Shape.{Shape}
 use Rattle.text.specs.declared.letters.TextForm.{TextForm}
 use Rattle.text.specs.declared.letters.TextForm.the-variants.{Payoff, Plan}

@@ -1,12 +1,7 @@
 -- What the reader answers, and what each of its parts answers on the way.
 pub mod Refusals
 pub mod ReadInto
-pub mod Positions
 pub mod Room
-pub mod Numbers
-pub mod Classes
-pub mod Settings
-pub mod Fields
 pub mod Letters
 pub mod Trees
 pub mod Rows

@@ -6,13 +6,13 @@ use lib.Seq.{sets}
 use mathlib.Core.Bool.{cond}
 use mathlib.Core.List.{List, [], _∷_}
 use mathlib.Core.Path.{_≡_}
+use Rattle.fields.specs.declared.slots.Slots.the-variants.{Filled, Unfilled}
+use Rattle.fields.specs.declared.slots.Slots.{Slots}
 use Rattle.language.specs.Text.Letters.{Form, Kind}
 use Rattle.text.specs.Refusals.{numberOf}
 use Rattle.text.specs.Trees.{Begun, Opens, Refuses}
 use Rattle.text.specs.declared.quick.Quick.{Quick}
 use Rattle.text.specs.declared.quick.Quick.the-variants.{Opened, Other}
-use Rattle.text.specs.declared.slots.Slots.{Slots}
-use Rattle.text.specs.declared.slots.Slots.the-variants.{Filled, Unfilled}
 use Rattle.text.specs.declared.trees.Head.{Head}
 use Rattle.text.specs.declared.whole.Row.{Row}
 use Rattle.text.specs.declared.whole.Row.the-variants.{Open, Shut}

@@ -3,14 +3,14 @@ use Prim.Native.Nat.{_+_, _-_, _<_, _≤_, ℕ}
 use lib.ListN.{length}
 use mathlib.Core.List.{List, [], _∷_}
 use mathlib.Core.Path.{_≡_}
+use Rattle.fields.specs.Fields.{slotAt}
+use Rattle.fields.specs.Positions.{restAt}
 use Rattle.language.specs.Answer.{refused}
 use Rattle.language.specs.Limits.{maxNodes}
 use Rattle.language.specs.Text.Classes.{Field}
 use Rattle.language.specs.Text.Letters.{Form, Kind, Letter, rowOf}
 use Rattle.language.specs.Text.Reader.{give, node, readTrees, thenRead}
-use Rattle.text.specs.Fields.{slotAt}
 use Rattle.text.specs.Letters.{kinds}
-use Rattle.text.specs.Positions.{restAt}
 use Rattle.text.specs.Refusals.{numberOf}
 use Rattle.text.specs.declared.trees.Head.{Head}
 use Rattle.text.specs.declared.trees.Opened.{Opened}

@@ -4,13 +4,13 @@ use lib.IntN.{ℤ}
 use lib.ListN.{take}
 use mathlib.Core.List.{List, [], _∷_}
 use mathlib.Core.Path.{_≡_}
+use Rattle.fields.specs.Positions.{restAt}
 use Rattle.language.specs.Answer.{Answer, got, refused}
 use Rattle.language.specs.Limits.{maxDepth}
 use Rattle.language.specs.Text.Letters.{Form, root}
 use Rattle.language.specs.Text.Reader.{Read, Trees, readTrees}
 use Rattle.nodes.specs.Rows as rows
 use Rattle.nodes.specs.Rows.{countOf}
-use Rattle.text.specs.Positions.{restAt}
 use Rattle.text.specs.Refusals.{numberOf}
 use Rattle.text.specs.declared.whole.Read as whole
 use Rattle.text.specs.declared.whole.Read.the-variants.{Done, Stopped}

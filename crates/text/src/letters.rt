@@ -2,14 +2,14 @@
 ghost use mathlib.Core.Path.{_≡_};
 ghost use Rattle.language.specs.Text.Letters.{planForm, payoffForm};
 ghost use Rattle.text.specs.Letters.{BareIs, formOf, ShapeIs};
-use crate::fields::DELAY;
-use crate::fields::DIVISOR;
-use crate::fields::FIGURE;
-use crate::fields::FROM_NODE;
-use crate::fields::LABEL;
-use crate::fields::MONTH;
-use crate::fields::NONE;
-use crate::fields::PARTY;
+use fields::field::DELAY;
+use fields::field::DIVISOR;
+use fields::field::FIGURE;
+use fields::field::FROM_NODE;
+use fields::field::LABEL;
+use fields::field::MONTH;
+use fields::field::NONE;
+use fields::field::PARTY;
 
 pub enum TextForm {
     Plan,

@@ -8,13 +8,9 @@ ghost use Rattle.text.specs.ReadInto.{CountIs, ReadInto};
 ghost use Rattle.text.specs.Refusals.{numberOf};
 ghost use Rattle.text.specs.Room.{Roomy};
 
-mod fields;
 mod letters;
-pub mod numbers;
 pub mod opens;
 mod quick;
-mod settings;
-mod slots;
 mod trees;
 mod whole;
 

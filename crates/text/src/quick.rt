@@ -6,21 +6,21 @@ ghost use lib.ListN.{length, getD};
 ghost use Rattle.language.specs.Text.Letters.{payoffForm, planForm};
 ghost use Rattle.text.specs.Letters.{formOf, kindAt};
 ghost use Rattle.text.specs.Rows.{FillIs, QuickIs};
-use crate::fields::FROM_NODE;
-use crate::fields::LABEL;
-use crate::fields::PARTY;
 use crate::letters::AMOUNT;
 use crate::letters::ROOT;
 use crate::letters::TextForm;
 use crate::letters::bare_letter;
-use crate::slots::Slots;
-use crate::slots::quick_delay;
-use crate::slots::quick_divisor;
-use crate::slots::quick_figure;
-use crate::slots::quick_reading;
-use crate::slots::quick_transfer;
-use crate::slots::two_digits;
 use crate::trees::put_row;
+use fields::field::FROM_NODE;
+use fields::field::LABEL;
+use fields::field::PARTY;
+use fields::slots::Slots;
+use fields::slots::quick_delay;
+use fields::slots::quick_divisor;
+use fields::slots::quick_figure;
+use fields::slots::quick_reading;
+use fields::slots::quick_transfer;
+use fields::slots::two_digits;
 
 // The byte behind a node that was opened and the kinds of its children in base 4, the first lowest; or another node.
 pub enum Quick {

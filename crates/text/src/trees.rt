@@ -5,20 +5,20 @@ ghost use Prim.Native.Nat.{_+_, _*_, _≤_, _<_};
 ghost use lib.IntN.{pos};
 ghost use lib.ListN.{length, drop};
 ghost use lib.Seq.{sets};
+ghost use Rattle.fields.specs.Positions.{upTo};
 ghost use Rattle.text.specs.Letters.{formOf, kindAt};
-ghost use Rattle.text.specs.Positions.{upTo};
 ghost use Rattle.text.specs.Packed.{rowOf};
 ghost use Rattle.text.specs.Room.{Roomy};
 ghost use Rattle.text.specs.Rows.{RowIs, kidsOf, openRow};
 ghost use Rattle.text.specs.Trees.{OpenedIs, SoleIs};
 ghost use Rattle.text.specs.declared.whole.Row.the-variants.{Open};
 use crate::Refusal;
-use crate::fields::NONE;
 use crate::letters::TextForm;
 use crate::letters::shape_of;
 use crate::number_of;
-use crate::slots::Slots;
-use crate::slots::read_fields;
+use fields::field::NONE;
+use fields::slots::Slots;
+use fields::slots::read_fields;
 
 pub const MAX_NODES: usize = 512;
 

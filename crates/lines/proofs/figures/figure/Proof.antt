@@ -5,11 +5,11 @@ use mir.ValLaws.{toZ-ofZ}
 use mir.Syntax.{w64}
 use mir.Val.{SFits, ofZ, toZ}
 use native.Mathlib.Omega.{arith}
+use Rattle.fields.proofs.NumberLaws.{neg-fits, read-pos, sub-pos}
 use Rattle.lines.proofs.FigureLaws.{start-inside, start-minus, start-plus}
 use Rattle.lines.proofs.figures.figure.Statement.{statement}
 use Rattle.lines.proofs.figures.figure.Tie as tie
 use Rattle.lines.specs.Figures.{ShortIs}
-use Rattle.text.proofs.NumberLaws.{neg-fits, read-pos, sub-pos}
 
 digits-start-requires : tie.Need-digits-start-requires
 digits-start-requires c κs = search needs

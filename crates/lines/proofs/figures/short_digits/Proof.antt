@@ -2,9 +2,9 @@ use Prim.Native.Nat.{_*_, _+_, _-_, _<_, _^_, _≤_}
 use lib.ListN.{drop, getD}
 use mathlib.Core.Path.{_≡_, subst}
 use native.Mathlib.Omega.{arith}
-use Rattle.text.specs.Positions.{upTo}
-use Rattle.text.proofs.NumberLaws.{Going, digits-below, eight-below, going-done, going-more, going-start}
-use Rattle.text.proofs.Positions.{up-comma, up-more}
+use Rattle.fields.proofs.NumberLaws.{Going, digits-below, eight-below, going-done, going-more, going-start}
+use Rattle.fields.proofs.Positions.{up-comma, up-more}
+use Rattle.fields.specs.Positions.{upTo}
 use Rattle.lines.proofs.figures.short_digits.Statement.{statement}
 use Rattle.lines.proofs.figures.short_digits.Tie as tie
 

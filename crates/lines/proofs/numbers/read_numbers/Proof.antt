@@ -7,11 +7,11 @@ use mir.Facts.{toZ-ofZ}
 use mir.Syntax.{w64}
 use mir.Val.{SFits}
 use native.Mathlib.Omega.{arith}
+use Rattle.fields.specs.Numbers.{NumberIs}
+use Rattle.fields.specs.Positions.{upTo}
 use Rattle.lines.proofs.NumberFields.{Going, going-bad, going-full, going-kept, going-over, going-start, number-bad, number-inside}
 use Rattle.lines.proofs.numbers.read_numbers.Statement.{statement}
 use Rattle.lines.proofs.numbers.read_numbers.Tie as tie
-use Rattle.text.specs.Numbers.{NumberIs}
-use Rattle.text.specs.Positions.{upTo}
 
 abbrev Inv-loop : tie.InvT-loop
 Inv-loop line at into₀ from place₀ count₀ into place count = Going line at into₀ from into place count

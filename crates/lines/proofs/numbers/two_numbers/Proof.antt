@@ -6,11 +6,11 @@ use mir.Facts.{toZ-ofZ}
 use mir.Syntax.{w64}
 use mir.Val.{SFits}
 use native.Mathlib.Omega.{arith}
+use Rattle.fields.specs.Numbers.{NumberIs}
+use Rattle.fields.specs.Positions.{upTo}
 use Rattle.lines.proofs.NumberFields.{both-there, first-bad, none-there, number-inside, one-alone, second-bad}
 use Rattle.lines.proofs.numbers.two_numbers.Statement.{statement}
 use Rattle.lines.proofs.numbers.two_numbers.Tie as tie
-use Rattle.text.specs.Numbers.{NumberIs}
-use Rattle.text.specs.Positions.{upTo}
 
 returns : tie.Need-returns
 returns c = none-there _ _ (c .if1 .taken)

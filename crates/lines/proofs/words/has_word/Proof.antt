@@ -2,10 +2,10 @@ use Prim.Native.Nat.{_-_, _≤_}
 use lib.ListN.{length}
 use mathlib.Core.Path.{_∙_, _≡_, refl, sym}
 use native.Mathlib.Omega.{arith}
+use Rattle.fields.proofs.Positions.{up-comma, up-end}
 use Rattle.lines.proofs.WordLaws.{comma-next, field-ends, line-over, other-byte, same, same-byte}
 use Rattle.lines.proofs.words.has_word.Statement.{statement}
 use Rattle.lines.proofs.words.has_word.Tie as tie
-use Rattle.text.proofs.Positions.{up-comma, up-end}
 
 abbrev Inv-loop : tie.InvT-loop
 Inv-loop line word i₀ i = (i ≤ length word) × (i ≤ length line) × (same line word i ≡ same line word 0)

@@ -1,9 +1,9 @@
 use mathlib.Core.Path.{refl}
 use native.Mathlib.Omega.{arith}
 use borrow.Author.Tests.{ne-eqb}
+use Rattle.fields.specs.Classes.{classOf}
+use Rattle.fields.specs.Fields.{classesOfThree, classesOfTwo}
 use Rattle.language.specs.Text.Letters.{AmountLetter, PayoffLetter, TestLetter, amountRow, letterAmong, ofAmount, ofRoot, ofTest, payoffForm, payoffRow, rowOf, testRow}
-use Rattle.text.specs.Classes.{classOf}
-use Rattle.text.specs.Fields.{classesOfThree, classesOfTwo}
 use Rattle.text.specs.Letters.{kindAt, kinds}
 use Rattle.text.proofs.LetterLaws.{known, unknown}
 use borrow.Author.Needs.{needs}

@@ -1,8 +1,8 @@
 use borrow.Author.Needs.{needs}
 use mathlib.Core.Path.{refl, subst, sym}
 use native.Mathlib.Omega.{arith}
-use Rattle.text.specs.Classes.{classOf}
-use Rattle.text.specs.Fields.{classesOfThree, classesOfTwo}
+use Rattle.fields.specs.Classes.{classOf}
+use Rattle.fields.specs.Fields.{classesOfThree, classesOfTwo}
 use Rattle.text.specs.Letters.{formOf, kindAt}
 use Rattle.text.specs.Rows.{QuickIs}
 use Rattle.text.specs.declared.letters.TextForm.{TextForm}

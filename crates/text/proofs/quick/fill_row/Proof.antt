@@ -7,9 +7,9 @@ use lib.Seq.{sets}
 use mir.Syntax.{w64}
 use mir.ValLaws.{toZ-ofZ}
 use native.Mathlib.Omega.{arith}
+use Rattle.fields.specs.declared.slots.Slots.{Slots}
 use Rattle.text.specs.Rows.{FillIs}
 use Rattle.text.specs.declared.quick.Quick.the-variants.{Opened, Other}
-use Rattle.text.specs.declared.slots.Slots.{Slots}
 use Rattle.text.proofs.RowLaws.{row-put, with-none, with-some}
 use Rattle.text.proofs.quick.fill_row.Statement.{statement}
 use Rattle.text.proofs.quick.fill_row.Tie as tie

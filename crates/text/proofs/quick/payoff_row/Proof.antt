@@ -2,8 +2,8 @@ use borrow.Author.Needs.{needs}
 use mathlib.Core.Logic.{⊎-elim}
 use mathlib.Core.Path.{refl, sym}
 use native.Mathlib.Omega.{arith}
-use Rattle.text.specs.Classes.{classOf}
-use Rattle.text.specs.Fields.{classesOfThree, classesOfTwo}
+use Rattle.fields.specs.Classes.{classOf}
+use Rattle.fields.specs.Fields.{classesOfThree, classesOfTwo}
 use Rattle.language.specs.Text.Letters.{payoffForm}
 use Rattle.text.proofs.QuickLaws.{commonShape, cut-shape, filled-opens, future-shape, reading-shape}
 use Rattle.text.proofs.quick.payoff_row.Statement.{statement}

@@ -1,8 +1,8 @@
 use borrow.Author.Needs.{needs}
 use mathlib.Core.Path.{refl, sym}
 use native.Mathlib.Omega.{arith}
-use Rattle.text.specs.Classes.{classOf}
-use Rattle.text.specs.Fields.{classesOfThree, classesOfTwo}
+use Rattle.fields.specs.Classes.{classOf}
+use Rattle.fields.specs.Fields.{classesOfThree, classesOfTwo}
 use Rattle.language.specs.Text.Letters.{planForm}
 use Rattle.text.proofs.QuickLaws.{commonShape, delay-shape, filled-opens, index-shape, transfer-shape}
 use Rattle.text.proofs.quick.plan_row.Statement.{statement}

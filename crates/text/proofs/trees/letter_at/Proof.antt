@@ -3,9 +3,9 @@ use lib.ListN.{drop, getD, length}
 use mathlib.Core.List.{List, _∷_}
 use mathlib.Core.Path.{_∙_, _≡_, ap}
 use native.Mathlib.Omega.{arith}
-use Rattle.text.specs.Positions.{upTo}
-use Rattle.text.proofs.Positions.{up-comma, up-end, up-more}
 use borrow.Author.Needs.{needs}
+use Rattle.fields.proofs.Positions.{up-comma, up-end, up-more}
+use Rattle.fields.specs.Positions.{upTo}
 use Rattle.text.proofs.trees.letter_at.Statement.{statement}
 use Rattle.text.proofs.trees.letter_at.Tie as tie
 

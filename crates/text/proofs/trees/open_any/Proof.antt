@@ -6,13 +6,13 @@ use mathlib.Core.Path.{_≡_, ap, refl, subst}
 use mir.Syntax.{w64}
 use mir.ValLaws.{toZ-ofZ}
 use native.Mathlib.Omega.{arith}
-use Rattle.text.specs.Fields.{SlotsAre}
+use Rattle.fields.proofs.FieldLaws.{four-none}
+use Rattle.fields.proofs.Positions.{up-fits}
+use Rattle.fields.specs.Fields.{SlotsAre}
+use Rattle.fields.specs.Positions.{upTo}
 use Rattle.text.specs.Letters.{formOf}
-use Rattle.text.specs.Positions.{upTo}
 use Rattle.text.specs.Trees.{SoleIs}
 use Rattle.text.proofs.OpenLaws.{open-bad, open-behind, open-deep, open-done, open-full, open-kind, open-other, open-unknown, positive-level}
-use Rattle.text.proofs.FieldLaws.{four-none}
-use Rattle.text.proofs.Positions.{up-fits}
 use Rattle.text.proofs.trees.open_any.Statement.{statement}
 use Rattle.text.proofs.trees.open_any.Tie as tie
 
