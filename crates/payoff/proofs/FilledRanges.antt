@@ -4,6 +4,7 @@ use lib.IntN.{pos}
 use lib.ListN.{length}
 use mathlib.Core.List.{List, [], _∷_}
 use native.Mathlib.Omega.{arith}
+use Rattle.checked.specs.Ranges.{Near}
 use Rattle.integers.proofs.Laws.{natAbs-add, natAbs-le}
 use Rattle.integers.proofs.Solver.{dn-neg, parts-le, up-neg}
 use Rattle.language.specs.Limits.{maxBack, maxMonth, maxMonths}
@@ -14,7 +15,7 @@ use Rattle.language.specs.Text.PayoffForm.{MonthField, fieldsOfPayoff}
 use Rattle.language.specs.Text.Plans.{Written}
 use Rattle.language.specs.Text.Trees.{Delay, Month, await, cut, leaf, months, nil, plus, setting, times, uncut}
 use Rattle.settling.proofs.MappedFields.{fields-amount, fields-test}
-use Rattle.worths.specs.Ranges.{FieldsIn, Near}
+use Rattle.worths.specs.Ranges.{FieldsIn}
 
 module _ (σ : ℕ → ℕ) (small : (k : ℕ) → σ k ≤ maxMonths) where
   sum-bound : (ks : List ℕ) → settingsSum σ ks ≤ maxMonths * length ks

@@ -9,6 +9,7 @@ use mathlib.Core.Bool.{_&&_, false≢true, true}
 use mathlib.Core.List.{List}
 use mathlib.Core.Path.{_≡_, refl}
 use native.Mathlib.Omega.{arith}
+use Rattle.checked.specs.Ranges.{Readable}
 use Rattle.language.proofs.Rules.Tables.{bound-small, factor-small, rules-of, value-bounded}
 use Rattle.language.proofs.Truth.{and-e}
 use Rattle.language.specs.Calls.{pairOk}
@@ -19,7 +20,7 @@ use Rattle.nodes.specs.Table.{natOf}
 use Rattle.pays.specs.Parties.{PairIn}
 use Rattle.tables.proofs.Spans.{span-holds}
 use Rattle.tables.specs.Given.{tableOf}
-use Rattle.worths.specs.Ranges.{Payable, Readable}
+use Rattle.worths.specs.Ranges.{Payable}
 
 module _ (h f : ℤ) (factors bounds values : List ℤ) (ok : tableOk (tableOf h f factors bounds values) ≡ true) where
   abbrev t : Table

@@ -13,6 +13,7 @@ use Rattle.amounts.proofs.FourWaits.{first-of-four, months-left, none-of-four}
 use Rattle.amounts.proofs.Waiting.{Later, later-is, not-order}
 use Rattle.amounts.specs.FourMonths.{firstHeld, heldIn}
 use Rattle.amounts.specs.declared.four.Held as four
+use Rattle.checked.specs.Ranges.{FourWaited}
 use Rattle.integers.proofs.Locals.{rd}
 use Rattle.integers.proofs.Tests.{lt-false, lt-true}
 use Rattle.integers.specs.Bounded.{Small}
@@ -21,7 +22,6 @@ use Rattle.language.specs.Payments.Pays.{hit}
 use Rattle.language.specs.Payoff.Evaluate.{checkedTried}
 use Rattle.nodes.specs.Table.{natOf}
 use Rattle.worths.proofs.WaitLoop.{Answers, Waiting, all, small-month, tried-next, tried-now, until}
-use Rattle.worths.specs.Ranges.{FourWaited}
 use Rattle.worths.specs.Waits.{WaitKnown, WaitsIn, waitAnswer}
 use Rattle.worths.specs.declared.wait.Wait.{Wait}
 use Rattle.worths.specs.declared.wait.Wait.the-variants.{Held}

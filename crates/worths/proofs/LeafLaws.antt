@@ -14,6 +14,7 @@ use mir.Val.{SFits}
 use native.Mathlib.Nat.{mul-le-mul}
 use native.Mathlib.Omega.{arith}
 use Rattle.amounts.proofs.RowReads.{month-is}
+use Rattle.checked.specs.Ranges.{Near, Waited}
 use Rattle.integers.proofs.Laws.{natAbs-add, natAbs-mul, sfits64}
 use Rattle.integers.proofs.Locals.{rd}
 use Rattle.integers.proofs.Solver.{_⊗_, ring, var}
@@ -25,7 +26,7 @@ use Rattle.language.specs.Limits.{maxValue, oneFactor}
 use Rattle.language.specs.Text.Number.{between}
 use Rattle.nodes.specs.Table.{natOf}
 use Rattle.worths.specs.Leaf.{leafIn}
-use Rattle.worths.specs.Ranges.{Near, Payable, Waited}
+use Rattle.worths.specs.Ranges.{Payable}
 
 -- the leaf's number i and w months waited, as the code adds them
 pub code-month : {x w m i : ℤ} → m ≡ x +ℤ w → x ≡ i → Waited w → m ≡ i +ℤ pos (natOf w)

@@ -11,6 +11,7 @@ use mir.Val.{SFits}
 use native.Mathlib.Numerals.{add-one}
 use native.Mathlib.Omega.{arith}
 use Rattle.amounts.proofs.Waiting.{Later, later-is, not-order, order}
+use Rattle.checked.specs.Ranges.{Waited}
 use Rattle.integers.proofs.Locals.{rd}
 use Rattle.integers.specs.Bounded.{Small}
 use Rattle.language.specs.Answer.{Answer, got, refused}
@@ -21,7 +22,6 @@ use Rattle.nodes.proofs.Signed.{natOf-known}
 use Rattle.nodes.specs.Table.{natOf}
 use Rattle.text.specs.Refusals.{numberOf}
 use Rattle.text.specs.declared.Refusal.{Refusal}
-use Rattle.worths.specs.Ranges.{Waited}
 use Rattle.worths.specs.Waits.{WaitKnown, WaitsIn, waitAnswer}
 use Rattle.worths.specs.declared.wait.Wait.{Wait}
 use Rattle.worths.specs.declared.wait.Wait.the-variants.{Held, Missed, Refused}

@@ -7,6 +7,7 @@ use mathlib.Core.Bool.{cond}
 use mathlib.Core.List.{List}
 use mathlib.Core.Path.{_∙_, _≡_, ap, ap₂, refl, sym}
 use native.Mathlib.Omega.{arith}
+use Rattle.checked.specs.Checked.{testIn, valueIn}
 use Rattle.language.specs.Answer.{Answer, _>>=_, got, onBoth, refused}
 use Rattle.language.specs.Calls.{factorsOf, lookupOf, rangesOf, signOf}
 use Rattle.language.specs.Limits.{maxAmount, maxNodes, maxValue}
@@ -23,7 +24,7 @@ use Rattle.tables.specs.Given.{tableOf}
 use Rattle.worths.proofs.Bounds.{worth-small}
 use Rattle.worths.proofs.WorthNodes.{PayoffNode, payoffOf}
 use Rattle.worths.specs.Answers.{SmallWorth, worthAnswer}
-use Rattle.worths.specs.Checked.{testIn, valueIn, worthIn}
+use Rattle.worths.specs.Checked.{worthIn}
 use Rattle.worths.specs.Leaf.{leafIn}
 use Rattle.worths.specs.declared.answers.Worth.{Worth}
 

@@ -7,6 +7,7 @@ use mathlib.Core.Bool.{Bool, cond, false, true}
 use mathlib.Core.List.{List}
 use mathlib.Core.Path.{_≡_, ap, subst}
 use native.Mathlib.Omega.{arith}
+use Rattle.checked.specs.Ranges.{Waited}
 use Rattle.language.proofs.Payoff.Values.{monthAt}
 use Rattle.language.specs.Answer.{Answer, _>>=_, got, refused}
 use Rattle.language.specs.Limits.{maxMonths}
@@ -15,7 +16,7 @@ use Rattle.language.specs.Payoff.Evaluate.{checkedTried}
 use Rattle.nodes.specs.Table.{natOf, slotAt}
 use Rattle.nodes.specs.declared.PayoffLetter.the-variants as letter
 use Rattle.worths.proofs.WorthNodes.{PayoffNode}
-use Rattle.worths.specs.Ranges.{FieldsIn, Waited, WaitedAt}
+use Rattle.worths.specs.Ranges.{FieldsIn, WaitedAt}
 use Rattle.worths.specs.Waits.{WaitsIn}
 
 -- ---- a wait ends at most d months later

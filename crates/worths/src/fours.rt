@@ -1,17 +1,17 @@
 // Amounts and tests with some months waited, in four months in a row: each node is looked at once for the four. Not sure where a month
 // is refused, and then each month is worked out by itself.
 ghost use Prim.Native.Nat.{_+_};
+ghost use Rattle.checked.specs.Checked.{testIn, valueIn};
+ghost use Rattle.checked.specs.FourMonths.{SureFour, SureTests};
+ghost use Rattle.checked.specs.Ranges.{FourWaited, Near, Readable};
 ghost use Rattle.language.specs.Text.Form.{fieldsOfAmount, fieldsOfTest};
 ghost use Rattle.nodes.specs.Found.{amountAt, offsetOf, testAt};
 ghost use Rattle.nodes.specs.Stands.{AmountStands, TestStands};
 ghost use Rattle.nodes.specs.Table.{natOf};
-ghost use Rattle.worths.specs.Checked.{testIn, valueIn};
-ghost use Rattle.worths.specs.FourMonths.{SureFour, SureTests};
-ghost use Rattle.worths.specs.Ranges.{FourWaited, Near, Readable};
-use crate::four;
-use crate::four::FourTests;
-use crate::four::FourValues;
 use amounts::four::Held;
+use checked::four;
+use checked::four::FourTests;
+use checked::four::FourValues;
 use integers::Month;
 use nodes::AmountLetter;
 use nodes::TestLetter;

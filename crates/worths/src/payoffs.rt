@@ -2,6 +2,7 @@
 ghost use mathlib.Core.Path.{_≡_};
 ghost use lib.Dec.{T};
 ghost use lib.Signed.{nonNeg};
+ghost use Rattle.checked.specs.Ranges.{Readable};
 ghost use Rattle.nodes.specs.Found.{offsetOf, payoffAt};
 ghost use Rattle.nodes.specs.Stands.{PayoffStands};
 ghost use Rattle.nodes.specs.Table.{natOf};
@@ -9,14 +10,14 @@ ghost use Rattle.pays.specs.Parties.{PairIn};
 ghost use Rattle.tables.specs.Given.{tableOf};
 ghost use Rattle.worths.specs.Answers.{worthAnswer};
 ghost use Rattle.worths.specs.Checked.{worthIn};
-ghost use Rattle.worths.specs.Ranges.{FieldsIn, Payable, Readable, WaitedAt};
+ghost use Rattle.worths.specs.Ranges.{FieldsIn, Payable, WaitedAt};
 use crate::answers;
 use crate::answers::Worth;
-use crate::coded;
 use crate::leaf;
 use crate::rows;
 use crate::wait;
 use crate::wait::Wait;
+use checked::coded;
 use integers::Millionths;
 use integers::Month;
 use nodes::PayoffLetter;
@@ -47,7 +48,7 @@ pub fn payoff_worth(
         PayoffLetter::Uncut => leaf::leaf_worth(nodes, factors, f, waited, Month(0), pair, at),
         PayoffLetter::Cut => leaf::leaf_worth(nodes, factors, f, waited, start, pair, at),
         PayoffLetter::Times => {
-            let a = coded::valued(crate::checked_value(
+            let a = coded::valued(checked::checked_value(
                 nodes,
                 values,
                 bounds,

@@ -1,16 +1,16 @@
 // The wait of a payoff's `W`: the first month in which its test holds, the miss, or the test's refusal.
 ghost use mathlib.Core.Path.{_≡_};
+ghost use Rattle.checked.specs.Checked.{testIn};
+ghost use Rattle.checked.specs.Ranges.{Near, Readable};
 ghost use Rattle.language.specs.Payoff.Evaluate.{checkedTried};
 ghost use Rattle.language.specs.Text.Form.{fieldsOfTest};
 ghost use Rattle.nodes.specs.Found.{offsetOf, testAt};
 ghost use Rattle.nodes.specs.Stands.{TestStands};
 ghost use Rattle.nodes.specs.Table.{natOf};
-ghost use Rattle.worths.specs.Checked.{testIn};
-ghost use Rattle.worths.specs.Ranges.{Near, Readable};
 ghost use Rattle.worths.specs.Waits.{WaitKnown, WaitsIn, waitAnswer};
 use crate::answers;
-use crate::answers::Tested;
 use crate::fours;
+use checked::answers::Tested;
 use integers::Month;
 use text::Refusal;
 
@@ -39,7 +39,7 @@ fn wait_singly(
     let last = integers::later(first, d);
     let mut month = first;
     loop {
-        let t = crate::checked_holds(nodes, values, bounds, h, f, month, at, left);
+        let t = checked::checked_holds(nodes, values, bounds, h, f, month, at, left);
         match t {
             Tested::Holds => {
                 break Wait::Held(month);

@@ -1,6 +1,8 @@
 use mathlib.Core.Path.{_∙_, ap, subst, sym}
-use Rattle.worths.proofs.Combined.{both-got, first-refused, second-refused, value-within}
-use Rattle.worths.specs.Answers.{SmallValued, SmallWorth, valueAnswer, valuedAnswer, worthAnswer}
+use Rattle.checked.proofs.Combined.{both-got, first-refused, second-refused}
+use Rattle.worths.proofs.Bounds.{value-within}
+use Rattle.checked.specs.Answers.{SmallValued, valuedAnswer}
+use Rattle.worths.specs.Answers.{SmallWorth, valueAnswer, worthAnswer}
 use Rattle.language.specs.Answer.{refused}
 use Rattle.language.specs.Limits.{maxValue}
 use Rattle.language.specs.Payoff.Evaluate.{inRange}

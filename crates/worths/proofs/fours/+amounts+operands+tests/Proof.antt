@@ -9,9 +9,9 @@ use Rattle.nodes.specs.declared.AmountLetter.{AmountLetter}
 use Rattle.nodes.specs.declared.AmountLetter.the-variants as amount
 use Rattle.nodes.specs.declared.TestLetter.{TestLetter}
 use Rattle.nodes.specs.declared.TestLetter.the-variants as test
-use Rattle.worths.proofs.CheckedArms as arms
-use Rattle.worths.proofs.CheckedNodes.{AmountNode, TestNode, amount-node, test-node}
-use Rattle.worths.proofs.FourLaws.{never, sure-small}
+use Rattle.checked.proofs.CheckedArms as arms
+use Rattle.checked.proofs.CheckedNodes.{AmountNode, TestNode, amount-node, test-node}
+use Rattle.checked.proofs.FourLaws.{never, sure-small}
 use Prim.Native.Nat.{_*_, _+_, _<_, ℕ}
 use borrow.Fn.Kinds.{In}
 use borrow.Fn.PlainCycle.{Measures, is, falls, and}
@@ -28,20 +28,20 @@ use Rattle.nodes.proofs.amount_letter.Reads as amount-letter-reads
 use Rattle.nodes.proofs.link.Reads as link-reads
 use Rattle.nodes.proofs.slot.Reads as slot-reads
 use Rattle.nodes.proofs.test_letter.Reads as test-letter-reads
-use Rattle.worths.proofs.four.both_hold.Reads as both-hold-reads
-use Rattle.worths.proofs.four.chosen.Reads as chosen-reads
-use Rattle.worths.proofs.four.difference_of.Reads as difference-of-reads
-use Rattle.worths.proofs.four.equal_to.Reads as equal-to-reads
-use Rattle.worths.proofs.four.less_than.Reads as less-than-reads
-use Rattle.worths.proofs.four.number.Reads as number-reads
+use Rattle.checked.proofs.four.both_hold.Reads as both-hold-reads
+use Rattle.checked.proofs.four.chosen.Reads as chosen-reads
+use Rattle.checked.proofs.four.difference_of.Reads as difference-of-reads
+use Rattle.checked.proofs.four.equal_to.Reads as equal-to-reads
+use Rattle.checked.proofs.four.less_than.Reads as less-than-reads
+use Rattle.checked.proofs.four.number.Reads as number-reads
 use Rattle.worths.proofs.fours.leaves.Reads as leaves-reads
-use Rattle.worths.proofs.four.one_holds.Reads as one-holds-reads
-use Rattle.worths.proofs.four.opposite.Reads as opposite-reads
-use Rattle.worths.proofs.four.over.Reads as over-reads
-use Rattle.worths.proofs.four.product_of.Reads as product-of-reads
-use Rattle.worths.proofs.four.reading.Reads as reading-reads
-use Rattle.worths.proofs.four.sum_of.Reads as sum-of-reads
-use Rattle.worths.proofs.four.unsure.Reads as unsure-reads
+use Rattle.checked.proofs.four.one_holds.Reads as one-holds-reads
+use Rattle.checked.proofs.four.opposite.Reads as opposite-reads
+use Rattle.checked.proofs.four.over.Reads as over-reads
+use Rattle.checked.proofs.four.product_of.Reads as product-of-reads
+use Rattle.checked.proofs.four.reading.Reads as reading-reads
+use Rattle.checked.proofs.four.sum_of.Reads as sum-of-reads
+use Rattle.checked.proofs.four.unsure.Reads as unsure-reads
 use Rattle.worths.proofs.fours.+amounts+operands+tests.{statement}
 use Rattle.worths.proofs.fours.+amounts+operands+tests.Tie.{close}
 

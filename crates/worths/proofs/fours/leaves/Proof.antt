@@ -5,8 +5,8 @@ use mir.Val.{SFits}
 use native.Mathlib.Omega.{arith}
 use Rattle.amounts.proofs.Nodes.{amount-inside, index-key, number-key}
 use Rattle.language.specs.Text.Form.{fieldsOfAmount}
-use Rattle.worths.proofs.CheckedArms as arms
-use Rattle.worths.proofs.CheckedNodes.{amount-node}
+use Rattle.checked.proofs.CheckedArms as arms
+use Rattle.checked.proofs.CheckedNodes.{amount-node}
 use Rattle.worths.proofs.fours.leaves.Statement.{statement}
 use Rattle.worths.proofs.fours.leaves.Tie as tie
 

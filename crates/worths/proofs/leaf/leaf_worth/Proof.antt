@@ -5,7 +5,7 @@ use mir.Val.{SFits}
 use lib.Signed.{ltZ}
 use Rattle.language.proofs.Payoff.Sizes.{unit-one}
 use Rattle.worths.proofs.LeafLaws as leaf
-use Rattle.worths.proofs.RowAnswers.{near-small, waited-small}
+use Rattle.checked.proofs.RowAnswers.{near-small, waited-small}
 use borrow.Author.Needs.{needs}
 use Rattle.worths.proofs.leaf.leaf_worth.Statement.{statement}
 use Rattle.worths.proofs.leaf.leaf_worth.Tie as tie

@@ -8,9 +8,9 @@ use Rattle.amounts.proofs.RowReads.{month-is}
 use Rattle.nodes.specs.Table.{natOf}
 use Rattle.nodes.specs.declared.PayoffLetter.{PayoffLetter}
 use Rattle.language.specs.Payments.Pays.{hit, miss}
-use Rattle.worths.proofs.Bounds.{valued-small}
+use Rattle.checked.proofs.Bounds.{valued-small}
 use Rattle.worths.proofs.WorthNodes.{PayoffNode, payoff-inside, payoff-node}
-use Rattle.worths.specs.Coded.{valuedIn}
+use Rattle.checked.specs.Coded.{valuedIn}
 use Rattle.worths.specs.Ranges.{FieldsIn}
 use Rattle.worths.specs.Waits.{WaitKnown, waitAnswer}
 use Prim.Native.Nat.{_<_, ℕ}
@@ -28,8 +28,8 @@ use Rattle.nodes.proofs.link.Reads as link-reads
 use Rattle.pays.proofs.rows.delay.Reads as delay-reads
 use Rattle.worths.proofs.answers.added.Reads as added-reads
 use Rattle.worths.proofs.answers.scaled.Reads as scaled-reads
-use Rattle.worths.proofs.checked_value.Reads as checked-value-reads
-use Rattle.worths.proofs.coded.valued.Reads as valued-reads
+use Rattle.checked.proofs.checked_value.Reads as checked-value-reads
+use Rattle.checked.proofs.coded.valued.Reads as valued-reads
 use Rattle.worths.proofs.leaf.leaf_worth.Reads as leaf-worth-reads
 use Rattle.worths.proofs.rows.letter.Reads as letter-reads
 use Rattle.worths.proofs.wait.wait_for.Reads as wait-for-reads

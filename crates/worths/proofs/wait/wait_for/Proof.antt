@@ -11,7 +11,7 @@ use Rattle.worths.proofs.FourWaits as fours
 use Rattle.worths.proofs.WaitLoop as waiting
 use Rattle.worths.proofs.wait.wait_for.Statement.{statement}
 use Rattle.worths.proofs.wait.wait_for.Tie as tie
-use Rattle.worths.specs.Checked.{testIn}
+use Rattle.checked.specs.Checked.{testIn}
 
 abbrev Inv-loop : tie.InvT-loop
 Inv-loop nodes values bounds h f at left last month₀ month = waiting.Waiting (testIn (h .0) (f .0) (bounds .now) (values .now) (testAt offsetOf left (nodes .now) at)) (month₀ .0) (last .0) (month .0)

@@ -7,8 +7,8 @@ use native.Mathlib.Omega.{arith}
 use Rattle.nodes.specs.Found.{offsetOf, testAt}
 use Rattle.nodes.specs.Table.{natOf}
 use Rattle.worths.proofs.WaitLoop as waiting
-use Rattle.worths.specs.Answers.{testedAnswer}
-use Rattle.worths.specs.Checked.{testIn}
+use Rattle.checked.specs.Answers.{testedAnswer}
+use Rattle.checked.specs.Checked.{testIn}
 use Rattle.worths.proofs.wait.wait_singly.Statement.{statement}
 use Rattle.worths.proofs.wait.wait_singly.Tie as tie
 
