@@ -11,7 +11,7 @@ use Rattle.amounts.specs.Flat.{flat}
 use Rattle.amounts.specs.Placed.{placeIn, placedAmount, placedPlan, placedTest}
 use Rattle.copies.proofs.LyingParts.{Three, Two, laid, lying-below, three-lie, two-lie}
 use Rattle.copies.proofs.PlanLetters.{letterOf}
-use Rattle.copies.proofs.Shapes.{amount-shape, is-node, plan-shape, test-shape}
+use Rattle.copies.proofs.Shapes.{Shape, amount-shape, is-node, plan-shape, test-shape}
 use Rattle.copies.specs.Lies.{Lies}
 use Rattle.language.specs.Calls.{lookupOf}
 use Rattle.language.specs.Limits.{maxMonths, maxNodes}
@@ -24,16 +24,19 @@ use Rattle.language.specs.Text.Form.{depthOf, fieldsOf}
 use Rattle.language.specs.Text.Letters as text
 use Rattle.language.specs.Text.Letters.{ofRoot, planForm, planRow, rowOf}
 use Rattle.language.specs.Text.Plans.{planTrees}
-use Rattle.language.specs.Text.Reader.{end}
+use Rattle.language.specs.Text.Reader.{Trees, end}
 use Rattle.language.specs.Text.Trees.{Amount, Plan, Test, both, later, months, nothing, scale, transfer, within}
 use Rattle.language.specs.Text.Typed.{amountTree, testTree}
+use Rattle.measures.proofs.BlocksLaid.{amount-block}
+use Rattle.measures.specs.Blocks.{AmountBlock}
 use Rattle.nodes.proofs.AmountsFound.{byte-at}
 use Rattle.nodes.proofs.Laid.{laid-slot}
 use Rattle.nodes.specs.Found.{offsetOf, testAt}
-use Rattle.nodes.specs.Rows.{delaySlot, fieldSlots, slotsOf}
+use Rattle.nodes.specs.Rows.{countOf, delaySlot, fieldSlots, firstCount, slotsOf}
 use Rattle.nodes.specs.Stands.{TestStands}
 use Rattle.nodes.specs.Table.{linkAt, slotAt}
 use Rattle.nodes.specs.declared.PlanLetter.{PlanLetter}
+use Rattle.places.proofs.PlacedForm.{depth-amount}
 use Rattle.steps.proofs.Tested.{test-fine, test-holds, test-stands}
 use Rattle.steps.specs.Ready.{Steps}
 
@@ -53,12 +56,25 @@ same-letter place (within d t x y) = refl
 same-month : (t : Table) (r d : ℕ) (x : Plan ℕ) → d ≡ 0 → readsOf (λ l m. T (readable t l m)) x (r + d) → readsOf (λ l m. T (readable t l m)) x r
 same-month t r d x e h = let z : r + d ≡ r = omega arith in subst (λ k. readsOf (λ l m. T (readable t l m)) x k) z h
 
+-- a tree with none behind it
+first-alone : {tree : Trees text.PlanLetter → Trees text.PlanLetter} → Shape tree → countOf (tree end) ≡ firstCount (tree end)
+unfolding countOf firstCount
+first-alone s = rw (s .is end) (omega arith)
+
 module _ {t : Table} {r : ℕ} {nodes : List ℤ} {at to left : ℕ} where
   -- ---- parts
 
   pub scale-lies : (a : Amount ℤ) (x : Plan ℕ) → Steps t r nodes at to left (scale a x) → Two nodes at to (amountTree aNumber (placedAmount (placeIn t) a)) (planTrees (closed (placedPlan (placeIn t) x)) end)
   unfolding planTrees mapPlan placedPlan
   scale-lies a x s = two-lie (ofRoot text.PlanLetter.S) [] (amount-shape aNumber (placedAmount (placeIn t) a)) (is-node (plan-shape (closed (placedPlan (placeIn t) x))) end) (s .lies)
+
+  pub scale-block : (a : Amount ℤ) (x : Plan ℕ) → Steps t r nodes at to left (scale a x) → AmountBlock maxNodes nodes (at + 1) (linkAt nodes at 3)
+  unfolding depthOf
+  scale-block a x s =
+      let b = placedAmount (placeIn t) a in
+      let l = scale-lies a x s .first in
+      amount-block nodes b end (at + 1) maxNodes (linkAt nodes at 3) (laid l) (omega (arith, depth-amount (placeIn t) a, s .depth, s .deep))
+      (omega (arith, l .ends, first-alone (amount-shape aNumber b)))
 
   pub scale-steps : (a : Amount ℤ) (x : Plan ℕ) → Steps t r nodes at to left (scale a x) → Steps t r nodes (linkAt nodes at 3) to (left - 1) x
   unfolding fieldsOf readsOf everyInPlan depthOf

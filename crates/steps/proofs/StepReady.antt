@@ -26,6 +26,7 @@ use Rattle.language.specs.Text.Plans.{planTrees}
 use Rattle.language.specs.Text.Reader.{end}
 use Rattle.language.specs.Text.Trees.{both, later, scale, within}
 use Rattle.language.specs.Text.Typed.{amountTree, testTree}
+use Rattle.measures.specs.Blocks.{AmountBlock}
 use Rattle.nodes.proofs.Signed.{natOf-known}
 use Rattle.nodes.specs.Found.{offsetOf, testAt}
 use Rattle.nodes.specs.Letters.{planLetter}
@@ -40,7 +41,7 @@ use Rattle.steps.specs.Ready.{Ready, Steps}
 use Rattle.tables.proofs.Spans.{up-to}
 use Rattle.tables.specs.Given.{tableOf}
 use Rattle.tables.specs.Lookup.{Kept, readTable}
-use Rattle.steps.proofs.StepParts.{both-lie, first-steps, held-steps, later-lies, later-slots, later-steps, missed-steps, same-letter, scale-lies, scale-steps, second-steps, within-lies, within-slots, within-test}
+use Rattle.steps.proofs.StepParts.{both-lie, first-steps, held-steps, later-lies, later-slots, later-steps, missed-steps, same-letter, scale-block, scale-lies, scale-steps, second-steps, within-lies, within-slots, within-test}
 
 -- a delay, as the code reads it, that is due or is not
 pub none-left : {d : ℤ} {n : ℕ} → d ≡ pos n → leZ d (pos 0) ≡ true → n ≡ 0
@@ -92,6 +93,10 @@ module _ {h f : ℤ} {bounds values : List ℤ} {r : ℕ} {nodes : List ℤ} {at
     module _ {p : ℕ} (e : p ≡ linkAt nodes at 3) where
       pub scale-order : (at + 1 ≤ p) × (p ≤ to)
       scale-order = (omega (arith, e, scale-parts .first .ends), omega (arith, e, scale-parts .second .ends))
+
+      -- where the amount's rows stand
+      pub scale-rows : AmountBlock maxNodes nodes (at + 1) p × (p ≤ maxNodes) × (5 * p ≤ length nodes)
+      scale-rows = (rw e (scale-block (i .0) (i .1) scale-is), omega (arith, scale-order .1, inside .1), omega (arith, scale-order .1, inside .2))
 
       unfoldable pub scale-ready : Ready h f bounds values r nodes p to (left - 1)
       scale-ready = record { factors = y .factors; ok = y .ok; plan = i .1; steps = rw e (scale-steps (i .0) (i .1) scale-is) }

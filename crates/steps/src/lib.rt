@@ -129,7 +129,7 @@ pub fn step_plan(
         }
         PlanLetter::Scale => {
             let second = copies::link(nodes, at, 3);
-            let a = reads::amount(nodes, values, today, at + 1);
+            let a = reads::amount(nodes, values, today, at + 1, second);
             let head = copies::put_letter(nodes, count, 83);
             let below = step_rows(nodes, values, bounds, span, today, head, at + 1, second);
             let x = step_plan(

@@ -1,10 +1,13 @@
 // What is read of a table that is written to: it is lent as a slice, and each reading lends it on.
 ghost use mathlib.Core.Path.{_≡_};
+ghost use Prim.Native.Nat.{_*_, _≤_};
 ghost use lib.IntN.{pos};
+ghost use lib.ListN.{length};
 ghost use Rattle.amounts.specs.Fine.{Fine, FineTest, MonthIn};
 ghost use Rattle.amounts.specs.Flat.{flat};
 ghost use Rattle.language.specs.Calls.{signOf};
 ghost use Rattle.language.specs.Payments.Amounts.{holds, value};
+ghost use Rattle.measures.specs.Blocks.{AmountBlock};
 ghost use Rattle.nodes.specs.Found.{amountAt, offsetOf, testAt};
 ghost use Rattle.nodes.specs.Stands.{AmountStands, TestStands};
 ghost use Rattle.nodes.specs.Table.{RowIn, natOf, slotAt};
@@ -47,12 +50,12 @@ pub fn penny(nodes: &[i64], at: usize, pair: Pair) -> Pence
     transfer::penny(&nodes, at, pair)
 }
 
-// The amount at a node, in a month.
-pub fn amount(nodes: &[i64], values: &&[i64], month: Month, at: usize) -> Pence
-    requires { ⌜ MonthIn (month .0) × AmountStands 512 (now nodes) at × Fine (now (now values)) (natOf (month .0)) (amountAt offsetOf 512 (now nodes) at) ⌝ }
+// The amount that stands in the rows from node `at` up to node `to`, in a month.
+pub fn amount(nodes: &[i64], values: &&[i64], month: Month, at: usize, to: usize) -> Pence
+    requires { ⌜ MonthIn (month .0) × AmountStands 512 (now nodes) at × Fine (now (now values)) (natOf (month .0)) (amountAt offsetOf 512 (now nodes) at) × AmountBlock 512 (now nodes) at to × (to ≤ 512) × (5 * to ≤ length (now nodes)) ⌝ }
     ensures { λ r. ⌜ r .0 ≡ value (flat (now (now (values .entry)))) (amountAt offsetOf 512 (now (nodes .entry)) at) (natOf (month .0)) ⌝ }
 {
-    amounts::amount_value(&nodes, values, month, at, 512)
+    backwards::amount_in(&nodes, values, month, at, to)
 }
 
 // Whether the test at a node holds in a month.

@@ -81,8 +81,11 @@ step-plan-add-amount t c =
 
 step-plan-amount-requires : (t : ℕ) → step-plan-lts.Need-amount-requires (step-plan-calls t) (step-plan-at t) step-plan.Post
 step-plan-amount-requires t c κs =
+    let y = c .before .before .before .before .before .before .before .pre .1 .2 in
+    let i = parts.by-letter y (c .before .before .before .before .before .plan-kind .ensures) (c .before .before .before .enum-told3 .given .1) in
     let n = node t (c .before .before .before .before .before) (c .before .before .before .enum-told3 .given .1) in
-    (c .before .before .before .before .before .before .before .pre .1 .0, paying.scale-amount n .0, paying.scale-amount n .1)
+    let b = parts.scale-rows y i (c .before .link .ensures) in
+    (c .before .before .before .before .before .before .before .pre .1 .0, paying.scale-amount n .0, paying.scale-amount n .1, b .0, b .1, b .2)
 
 step-plan-put-letter-requires-3 : (t : ℕ) → step-plan-lts.Need-put-letter-requires-3 (step-plan-calls t) (step-plan-at t) step-plan.Post
 step-plan-put-letter-requires-3 t c κs =

@@ -1,0 +1,3 @@
+-- Laws of the way back.
+pub mod Backwards
+pub mod Waiting
