@@ -21,55 +21,70 @@ pub enum Back {
     Other,
 }
 
-// The newest value is in `top`, those beneath it in the stack. An `I`, or more values than the stack holds, gives up.
+// The newest value is in `top`, those beneath it in the stack. An `I`, or more values than the stack holds, gives up. The letters are
+// asked for two at a time: one jump by all of them would be foreseen wrongly too often.
 pub fn worked_back(nodes: &&[i64], values: &&[i64], month: Month, from: usize, to: usize) -> Back
     requires { ⌜ MonthIn (month .0) × Fine (now (now values)) (natOf (month .0)) (amountAt offsetOf 512 (now (now nodes)) from) × AmountBlock 512 (now (now nodes)) from to × (to ≤ 512) × (5 * to ≤ length (now (now nodes))) ⌝ }
     ensures { λ r. ⌜ BackIs (value (flat (now (now (values .entry)))) (amountAt offsetOf 512 (now (now (nodes .entry))) from) (natOf (month .0))) r ⌝ }
 {
-    let mut stack = [0i64; 64];
+    let mut stack = [0i64; 32];
     let mut depth: usize = 0;
     let mut top = 0i64;
     let mut at = to;
     while from < at {
         at -= 1;
         let x = nodes::slot(nodes, at, 0);
-        match x {
-            78 => {
-                if depth == 64 {
+        if x < 78 {
+            match x {
+                65 => {
+                    depth -= 1;
+                    let y = stack[depth];
+                    top = integers::plus(Pence(top), Pence(y)).0;
+                }
+                75 => {
+                    depth -= 1;
+                    let y = stack[depth];
+                    top = integers::times(Pence(top), Pence(y)).0;
+                }
+                _ => {
                     return Back::Other;
                 }
-                stack[depth] = top;
-                depth += 1;
-                top = rows::number(nodes, at).0;
             }
-            79 => {
-                if depth == 64 {
+        } else if x < 80 {
+            match x {
+                78 => {
+                    if depth == 32 {
+                        return Back::Other;
+                    }
+                    stack[depth] = top;
+                    depth += 1;
+                    top = rows::number(nodes, at).0;
+                }
+                79 => {
+                    if depth == 32 {
+                        return Back::Other;
+                    }
+                    stack[depth] = top;
+                    depth += 1;
+                    top = rows::reading(nodes, values, month, at).0;
+                }
+                _ => {
                     return Back::Other;
                 }
-                stack[depth] = top;
-                depth += 1;
-                top = rows::reading(nodes, values, month, at).0;
             }
-            65 => {
-                depth -= 1;
-                let y = stack[depth];
-                top = integers::plus(Pence(top), Pence(y)).0;
-            }
-            85 => {
-                depth -= 1;
-                let y = stack[depth];
-                top = integers::minus(Pence(top), Pence(y)).0;
-            }
-            75 => {
-                depth -= 1;
-                let y = stack[depth];
-                top = integers::times(Pence(top), Pence(y)).0;
-            }
-            81 => {
-                top = rows::over(nodes, at, Pence(top)).0;
-            }
-            _ => {
-                return Back::Other;
+        } else {
+            match x {
+                85 => {
+                    depth -= 1;
+                    let y = stack[depth];
+                    top = integers::minus(Pence(top), Pence(y)).0;
+                }
+                81 => {
+                    top = rows::over(nodes, at, Pence(top)).0;
+                }
+                _ => {
+                    return Back::Other;
+                }
             }
         }
     }

@@ -1,8 +1,8 @@
 -- The rows of an amount or test stand together: from its node up to the node where the next part stands.
 use Prim.Native.Nat.{_+_, suc, zero, ℕ}
 use Rattle.language.specs.Limits.{maxNodes}
-use Rattle.nodes.specs.Letters.{amountLetter, planLetter, testLetter}
-use Rattle.nodes.specs.Stands.{planAsks}
+use Rattle.nodes.specs.Letters.{amountLetter, payoffLetter, planLetter, testLetter}
+use Rattle.nodes.specs.Stands.{payoffAsks, planAsks}
 use Rattle.nodes.specs.Table.{linkAt, slotAt}
 use Rattle.nodes.specs.declared.AmountLetter.the-variants.{Choose, Difference, Index, NoAmount, Number, Product, Quotient, Sum}
 use Rattle.nodes.specs.declared.AmountLetter.{AmountLetter}
@@ -51,3 +51,13 @@ PlanBlocks (suc left) nodes at = planAsks (planLetter (slotAt nodes at 0))
     (PlanBlocks left nodes (at + 1))
     (PlanBlocks left nodes (linkAt nodes at 3))
     (PlanBlocks left nodes (linkAt nodes at 4))
+
+-- in a payoff likewise
+unfoldable pub PayoffBlocks : ℕ → List ℤ → ℕ → Type 0
+PayoffBlocks zero nodes at = ⊥
+PayoffBlocks (suc left) nodes at = payoffAsks (payoffLetter (slotAt nodes at 0))
+    (AmountBlock maxNodes nodes (at + 1) (linkAt nodes at 3))
+    (TestBlock maxNodes nodes (at + 1) (linkAt nodes at 3))
+    (PayoffBlocks left nodes (at + 1))
+    (PayoffBlocks left nodes (linkAt nodes at 3))
+    (PayoffBlocks left nodes (linkAt nodes at 4))

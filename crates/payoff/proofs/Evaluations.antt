@@ -17,6 +17,7 @@ use Rattle.language.specs.Rules.Table.{monthOk, settingAt, settingsOk, tableOk}
 use Rattle.language.specs.Text.Letters.{payoffForm}
 use Rattle.language.specs.Text.Plans.{Written, payoffTrees, printPayoff, readPayoff}
 use Rattle.language.specs.Text.Reader.{end, readText}
+use Rattle.measures.specs.Blocks.{PayoffBlocks}
 use Rattle.nodes.proofs.AmountsFound.{Finds}
 use Rattle.nodes.proofs.Laid.{rows-length}
 use Rattle.nodes.specs.Found.{offsetOf, payoffAt}
@@ -24,6 +25,7 @@ use Rattle.nodes.specs.Pass.{allRows, mapRows}
 use Rattle.nodes.specs.Rows.{countOf, rows}
 use Rattle.nodes.specs.Stands.{PayoffStands}
 use Rattle.nodes.specs.Table.{natOf}
+use Rattle.payoff.proofs.FilledBlocks.{filled-blocks}
 use Rattle.payoff.proofs.FilledRanges.{filled-range}
 use Rattle.payoff.proofs.Opens.{none-open}
 use Rattle.text.specs.Opens.{opens}
@@ -31,8 +33,9 @@ use Rattle.payoff.proofs.TableFacts.{month-known}
 use Rattle.payoff.specs.Evaluating.{EvaluateIs, Standing, Stands, evaluatingAnswer, givenOf}
 use Rattle.payoff.specs.declared.Evaluating.{Evaluating}
 use Rattle.payoff.specs.declared.Evaluating.the-variants.{Refused}
-use Rattle.settling.proofs.FilledFound.{filled-found}
+use Rattle.settling.proofs.FilledFound.{filled-found, filled-laid}
 use Rattle.settling.proofs.PayoffSettles as settled
+use Rattle.settling.proofs.PayoffSettles.{filledTrees}
 use Rattle.settling.proofs.PlainRows.{plain-settled}
 use Rattle.settling.specs.Settle.{SettleIs, Settled, rowIn, rowSettled, settleRow}
 use Rattle.tables.specs.declared.fill.Filling.the-variants.{Filled}
@@ -63,10 +66,16 @@ module _ {nodes : List ℤ} {count : ℕ} {x : Written} (s : Standing nodes coun
     pub set-is : allRows (rowSettled days) count nodes ≡ payoffSet days x
     set-is = ap₂ (allRows (rowSettled days)) (s .counted) whole ∙ settled.rows-set days x (drop (5 * count) nodes) (s .formed .fields)
 
-    pub found : {after : List ℤ} → after ≡ mapRows (settleRow days) count nodes → Finds (payoffAt natOf offsetOf 32 after 0) (fillPayoff (settingAt days) x) (PayoffStands 32 after 0)
-    found {after} e =
-        filled-found days x (s .formed) after (drop (5 * count) nodes)
-        (e ∙ ap₂ (mapRows (settleRow days)) (s .counted) whole ∙ settled.rows-settled days x (drop (5 * count) nodes) (s .formed .fields))
+    -- settled, it is the filled payoff's rows
+    module _ {after : List ℤ} (e : after ≡ mapRows (settleRow days) count nodes) where
+      filled : after ≡ rows payoffForm (filledTrees (fillPayoff (settingAt days) x) end) ++ drop (5 * count) nodes
+      filled = e ∙ ap₂ (mapRows (settleRow days)) (s .counted) whole ∙ settled.rows-settled days x (drop (5 * count) nodes) (s .formed .fields)
+
+      pub found : Finds (payoffAt natOf offsetOf 32 after 0) (fillPayoff (settingAt days) x) (PayoffStands 32 after 0)
+      found = filled-found days x (s .formed) after (drop (5 * count) nodes) filled
+
+      pub found-blocks : PayoffBlocks 32 after 0
+      found-blocks = filled-blocks (settingAt days) after x end 0 32 (filled-laid days x (s .formed) after (drop (5 * count) nodes) filled) (s .formed .depth) (omega arith)
 
 -- ---- document 01's order
 module _ (days : List ℤ) (h f : ℤ) (factors bounds values : List ℤ) (p q now : ℤ) (count : ℕ) (before : List ℤ) where
@@ -97,10 +106,10 @@ module _ (days : List ℤ) (h f : ℤ) (factors bounds values : List ℤ) (p q n
 
         -- the table as it was settled, in which the walk goes
         module _ {after : List ℤ} (u : SettleIs days count before after Filled) where
-          pub walked : Stands before count → PayoffStands 32 after 0 × FieldsIn (payoffAt natOf offsetOf 32 after 0)
+          pub walked : Stands before count → PayoffStands 32 after 0 × FieldsIn (payoffAt natOf offsetOf 32 after 0) × PayoffBlocks 32 after 0
           walked s =
               let w = found (s .standing) days (u .1) in
-              (w .safe, subst FieldsIn (sym (w .is)) (filled-range (settingAt days) (setting-small days e) (s .payoff) (s .standing .formed .fields)))
+              (w .safe, subst FieldsIn (sym (w .is)) (filled-range (settingAt days) (setting-small days e) (s .payoff) (s .standing .formed .fields)), found-blocks (s .standing) days (u .1))
 
           pub valued : {r : Evaluating} → evaluatingAnswer r ≡ worthIn (g .table) p q (natOf now) (payoffAt natOf offsetOf 32 after 0) 0 → Is r
           unfolding evaluate

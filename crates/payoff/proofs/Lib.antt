@@ -3,6 +3,7 @@ pub mod CompileTexts
 pub mod Copied
 pub mod Cuts
 pub mod Evaluations
+pub mod FilledBlocks
 pub mod FilledRanges
 pub mod Opens
 pub mod TableFacts

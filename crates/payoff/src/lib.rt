@@ -10,6 +10,7 @@ ghost use lib.Signed.{nonNeg};
 ghost use Rattle.checked.specs.Ranges.{Readable};
 ghost use Rattle.language.specs.Calls.{compileCall, cutCall, evaluateCall, over, pairOk};
 ghost use Rattle.language.specs.Text.Number.{between};
+ghost use Rattle.measures.specs.Blocks.{PayoffBlocks};
 ghost use Rattle.nodes.specs.Found.{offsetOf, payoffAt};
 ghost use Rattle.nodes.specs.Stands.{PayoffStands};
 ghost use Rattle.nodes.specs.Table.{natOf};
@@ -200,7 +201,7 @@ fn worth_of(
     pair: Pair,
 ) -> Worth
     requires { ⌜ Readable (span .h) (span .f) (now bounds) (now values) × Payable (span .f) (now factors) × T (nonNeg (month .0)) × PairIn (pair .p) (pair .q)
-        × PayoffStands 32 (now nodes) 0 × FieldsIn (payoffAt natOf offsetOf 32 (now nodes) 0) ⌝ }
+        × PayoffStands 32 (now nodes) 0 × FieldsIn (payoffAt natOf offsetOf 32 (now nodes) 0) × PayoffBlocks 32 (now nodes) 0 ⌝ }
     ensures { λ r. ⌜ worthAnswer r ≡ worthIn (tableOf (span .h) (span .f) (now (factors .entry)) (now (bounds .entry)) (now (values .entry))) (pair .p) (pair .q) (natOf (month .0))
         (payoffAt natOf offsetOf 32 (now (nodes .entry)) 0) 0 ⌝ }
 {

@@ -36,7 +36,7 @@ anyMonth m = Unit {0}
 month-back : (l : ℕ) (m : ℤ) → anyMonth m → _≡_ {A = ℤ} m m
 month-back l m g = refl
 
-filled-first : (x : Payoff ℕ ℤ) (r : Trees PayoffLetter) → IsNode (filledTrees x r) × (behindFirst (filledTrees x r) ≡ r)
+pub filled-first : (x : Payoff ℕ ℤ) (r : Trees PayoffLetter) → IsNode (filledTrees x r) × (behindFirst (filledTrees x r) ≡ r)
 unfolding filledTrees behindFirst
 filled-first nil r = (tt, refl)
 filled-first (leaf k m p q) r = (tt, refl)
@@ -132,8 +132,9 @@ module _ (σ : ℕ → ℕ) (nodes : List ℤ) where
       }
 
 -- ---- from node 0 on: the table in which a payoff in form was settled
-pub filled-found : (days : List ℤ) (x : Written) → FormedPayoff x → (nodes rest : List ℤ) → nodes ≡ rows payoffForm (filledTrees (fillPayoff (settingAt days) x) end) ++ rest
-    → Finds (payoffAt natOf offsetOf maxDepth nodes 0) (fillPayoff (settingAt days) x) (PayoffStands maxDepth nodes 0)
-filled-found days x formed nodes rest e =
-    let l : Laid payoffForm nodes 0 (filledTrees (fillPayoff (settingAt days) x) end) = record { rest = rest; is = e; room = omega (arith, filled-count days x rest (formed .fields), payoff-rows x formed) } in
-    filled-in (settingAt days) nodes x end 0 maxDepth l (formed .fields) (formed .depth) (omega arith)
+module _ (days : List ℤ) (x : Written) (formed : FormedPayoff x) (nodes rest : List ℤ) (e : nodes ≡ rows payoffForm (filledTrees (fillPayoff (settingAt days) x) end) ++ rest) where
+  pub filled-laid : Laid payoffForm nodes 0 (filledTrees (fillPayoff (settingAt days) x) end)
+  filled-laid = record { rest = rest; is = e; room = omega (arith, filled-count days x rest (formed .fields), payoff-rows x formed) }
+
+  pub filled-found : Finds (payoffAt natOf offsetOf maxDepth nodes 0) (fillPayoff (settingAt days) x) (PayoffStands maxDepth nodes 0)
+  filled-found = filled-in (settingAt days) nodes x end 0 maxDepth filled-laid (formed .fields) (formed .depth) (omega arith)

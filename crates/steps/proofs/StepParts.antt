@@ -73,7 +73,7 @@ module _ {t : Table} {r : ℕ} {nodes : List ℤ} {at to left : ℕ} where
   scale-block a x s =
       let b = placedAmount (placeIn t) a in
       let l = scale-lies a x s .first in
-      amount-block nodes b end (at + 1) maxNodes (linkAt nodes at 3) (laid l) (omega (arith, depth-amount (placeIn t) a, s .depth, s .deep))
+      amount-block planForm aNumber nodes b end (at + 1) maxNodes (linkAt nodes at 3) (laid l) (omega (arith, depth-amount (placeIn t) a, s .depth, s .deep))
       (omega (arith, l .ends, first-alone (amount-shape aNumber b)))
 
   pub scale-steps : (a : Amount ℤ) (x : Plan ℕ) → Steps t r nodes at to left (scale a x) → Steps t r nodes (linkAt nodes at 3) to (left - 1) x

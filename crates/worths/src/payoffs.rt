@@ -3,6 +3,7 @@ ghost use mathlib.Core.Path.{_≡_};
 ghost use lib.Dec.{T};
 ghost use lib.Signed.{nonNeg};
 ghost use Rattle.checked.specs.Ranges.{Readable};
+ghost use Rattle.measures.specs.Blocks.{PayoffBlocks};
 ghost use Rattle.nodes.specs.Found.{offsetOf, payoffAt};
 ghost use Rattle.nodes.specs.Stands.{PayoffStands};
 ghost use Rattle.nodes.specs.Table.{natOf};
@@ -38,7 +39,7 @@ pub fn payoff_worth(
     left: usize,
 ) -> Worth
     requires { ⌜ Readable (h .0) (f .0) (now (now bounds)) (now (now values)) × Payable (f .0) (now factors) × WaitedAt left (waited .0) × T (nonNeg (start .0)) × PairIn (pair .p) (pair .q)
-        × PayoffStands left (now (now nodes)) at × FieldsIn (payoffAt natOf offsetOf left (now (now nodes)) at) ⌝ }
+        × PayoffStands left (now (now nodes)) at × FieldsIn (payoffAt natOf offsetOf left (now (now nodes)) at) × PayoffBlocks left (now (now nodes)) at ⌝ }
     ensures { λ r. ⌜ worthAnswer r ≡ worthIn (tableOf (h .0) (f .0) (now (factors .entry)) (now (now (bounds .entry))) (now (now (values .entry)))) (pair .p) (pair .q) (natOf (start .0))
         (payoffAt natOf offsetOf left (now (now (nodes .entry))) at) (natOf (waited .0)) ⌝ }
 {
@@ -48,7 +49,8 @@ pub fn payoff_worth(
         PayoffLetter::Uncut => leaf::leaf_worth(nodes, factors, f, waited, Month(0), pair, at),
         PayoffLetter::Cut => leaf::leaf_worth(nodes, factors, f, waited, start, pair, at),
         PayoffLetter::Times => {
-            let a = coded::valued(checked::checked_value(
+            let next = nodes::link(nodes, at, 3);
+            let a = coded::valued(checked_back::value_in(
                 nodes,
                 values,
                 bounds,
@@ -56,7 +58,7 @@ pub fn payoff_worth(
                 f,
                 waited,
                 at + 1,
-                512,
+                next,
             ));
             let x = payoff_worth(
                 nodes,
@@ -68,7 +70,7 @@ pub fn payoff_worth(
                 waited,
                 start,
                 pair,
-                nodes::link(nodes, at, 3),
+                next,
                 left - 1,
             );
             answers::scaled(a, x)

@@ -38,7 +38,7 @@ worth-of-requires c κs =
     let u = subst (SettleIs (a .days .now) (a .count) (a .nodes .now) (c .before .before .before .before .settle-open .last .0)) (c .before .enum-told .given .1) (c .before .before .before .before .settle-open .ensures) in
     let w = evaluations.walked (a .days .now) (a .span .h) (a .span .f) (a .factors .now) (a .bounds .now) (a .values .now) (a .pair .p) (a .pair .q) (a .month .0) (a .count) (a .nodes .now) t m e u (s .pre .0) in
     let b = and-e (between (pos 0) (a .span .f) (a .month .0)) (pairOk (a .pair .p) (a .pair .q)) m in
-    (table-read (a .span .h) (a .span .f) (a .factors .now) (a .bounds .now) (a .values .now) t, table-pays (a .span .h) (a .span .f) (a .factors .now) (a .bounds .now) (a .values .now) t, month-known (a .span .f) (a .month .0) (b .0) .0, pair-known (a .pair .p) (a .pair .q) (b .1), w .0, w .1)
+    (table-read (a .span .h) (a .span .f) (a .factors .now) (a .bounds .now) (a .values .now) t, table-pays (a .span .h) (a .span .f) (a .factors .now) (a .bounds .now) (a .values .now) t, month-known (a .span .f) (a .month .0) (b .0) .0, pair-known (a .pair .p) (a .pair .q) (b .1), w .0, w .1, w .2)
 
 evaluated-requires : tie.Need-evaluated-requires
 evaluated-requires c κs = search needs

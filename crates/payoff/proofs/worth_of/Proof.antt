@@ -13,7 +13,7 @@ payoff-worth-requires c κs =
     let fh : SFits w64 (s .args .span .h) = search needs in
     let ff : SFits w64 (s .args .span .f) = search needs in
     let w : WaitedAt 32 (pos 0) = search needs in
-    rw (toZ-ofZ fh, toZ-ofZ ff) (s .pre .0, s .pre .1, w, s .pre .2, s .pre .3, s .pre .4, s .pre .5)
+    rw (toZ-ofZ fh, toZ-ofZ ff) (s .pre .0, s .pre .1, w, s .pre .2, s .pre .3, s .pre .4, s .pre .5, s .pre .6)
 
 returns : tie.Need-returns
 returns c =

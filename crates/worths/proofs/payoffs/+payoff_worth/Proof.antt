@@ -28,7 +28,7 @@ use Rattle.nodes.proofs.link.Reads as link-reads
 use Rattle.pays.proofs.rows.delay.Reads as delay-reads
 use Rattle.worths.proofs.answers.added.Reads as added-reads
 use Rattle.worths.proofs.answers.scaled.Reads as scaled-reads
-use Rattle.checked.proofs.checked_value.Reads as checked-value-reads
+use Rattle.checked_back.proofs.value_in.Reads as value-in-reads
 use Rattle.checked.proofs.coded.valued.Reads as valued-reads
 use Rattle.worths.proofs.leaf.leaf_worth.Reads as leaf-worth-reads
 use Rattle.worths.proofs.rows.letter.Reads as letter-reads
@@ -48,12 +48,12 @@ payoff-worth-below t = and
     payoff-worth.Pre
 
 abbrev payoff-worth-calls : ℕ → payoff-worth-lts.Claims
-payoff-worth-calls t = (letter-reads.Asked, letter-reads.Learnt, leaf-worth-reads.Asked, leaf-worth-reads.Learnt, checked-value-reads.Asked, checked-value-reads.Learnt, valued-reads.Asked, valued-reads.Learnt, link-reads.Asked, link-reads.Learnt, payoff-worth-below t, payoff-worth.Post, scaled-reads.Asked, scaled-reads.Learnt, added-reads.Asked, added-reads.Learnt, delay-reads.Asked, delay-reads.Learnt, wait-for-reads.Asked, wait-for-reads.Learnt)
+payoff-worth-calls t = (letter-reads.Asked, letter-reads.Learnt, leaf-worth-reads.Asked, leaf-worth-reads.Learnt, link-reads.Asked, link-reads.Learnt, value-in-reads.Asked, value-in-reads.Learnt, valued-reads.Asked, valued-reads.Learnt, payoff-worth-below t, payoff-worth.Post, scaled-reads.Asked, scaled-reads.Learnt, added-reads.Asked, added-reads.Learnt, delay-reads.Asked, delay-reads.Learnt, wait-for-reads.Asked, wait-for-reads.Learnt)
 
 -- what is known in the arm of letter l
 payoff-worth-here : (t : ℕ) (c : payoff-worth-lts.After-letter (payoff-worth-calls t) (payoff-worth-at t) payoff-worth.Post) (l : PayoffLetter) → c .letter .result ≡ l
     → PayoffNode (c .before .args .nodes .now .now) (c .before .args .left) (c .before .args .at) l
-payoff-worth-here t c l e = payoff-node (c .before .pre .1 .5) (c .before .pre .1 .6) (c .letter .ensures) e
+payoff-worth-here t c l e = payoff-node (c .before .pre .1 .5) (c .before .pre .1 .6) (c .before .pre .1 .7) (c .letter .ensures) e
 
 payoff-worth-letter-requires : (t : ℕ) → payoff-worth-lts.Need-letter-requires (payoff-worth-calls t) (payoff-worth-at t) payoff-worth.Post
 payoff-worth-letter-requires t c κs = payoff-inside _ _ _ (c .pre .1 .5)
@@ -74,23 +74,24 @@ payoff-worth-leaf-worth-requires-2 t c κs =
     let n = payoff-worth-here t (c .before .before) letter.Cut (c .enum-told3 .given .1) in
     (n .inside, h .1, parts.waited (h .2), h .4, n .range)
 
-payoff-worth-add-checked-value : (t : ℕ) → payoff-worth-lts.Need-add-checked-value (payoff-worth-calls t) (payoff-worth-at t) payoff-worth.Post
-payoff-worth-add-checked-value t c =
-    let n = payoff-worth-here t (c .before .before) letter.Times (c .enum-told4 .given .1) in
-    record { fits = omega (arith, n .inside) }
-
-payoff-worth-checked-value-requires : (t : ℕ) → payoff-worth-lts.Need-checked-value-requires (payoff-worth-calls t) (payoff-worth-at t) payoff-worth.Post
-unfolding FieldsIn
-payoff-worth-checked-value-requires t c κs =
-    let s = c .before .before .before in
-    let h = s .pre .1 in
-    let n = payoff-worth-here t (c .before .before) letter.Times (c .enum-told4 .given .1) in
-    (h .0, parts.waited (h .2), n .stands .0, n .range .0)
-
 payoff-worth-link-requires : (t : ℕ) → payoff-worth-lts.Need-link-requires (payoff-worth-calls t) (payoff-worth-at t) payoff-worth.Post
 payoff-worth-link-requires t c κs =
-    let n = payoff-worth-here t (c .before .before .before .before) letter.Times (c .before .before .enum-told4 .given .1) in
+    let n = payoff-worth-here t (c .before .before) letter.Times (c .enum-told4 .given .1) in
     (n .inside, omega arith, n .stands .1 .0)
+
+payoff-worth-add-value-in : (t : ℕ) → payoff-worth-lts.Need-add-value-in (payoff-worth-calls t) (payoff-worth-at t) payoff-worth.Post
+payoff-worth-add-value-in t c =
+    let n = payoff-worth-here t (c .before .before .before) letter.Times (c .before .enum-told4 .given .1) in
+    record { fits = omega (arith, n .inside) }
+
+payoff-worth-value-in-requires : (t : ℕ) → payoff-worth-lts.Need-value-in-requires (payoff-worth-calls t) (payoff-worth-at t) payoff-worth.Post
+unfolding FieldsIn
+payoff-worth-value-in-requires t c κs =
+    let s = c .before .before .before .before in
+    let h = s .pre .1 in
+    let n = payoff-worth-here t (c .before .before .before) letter.Times (c .before .enum-told4 .given .1) in
+    let i = payoff-inside _ _ _ (n .stands .1 .1) in
+    rw (c .link .ensures) (h .0, parts.waited (h .2), n .stands .0, n .range .0, n .blocks .0, omega (arith, i .0), omega (arith, i .1))
 
 payoff-worth-sub-payoff-worth : (t : ℕ) → payoff-worth-lts.Need-sub-payoff-worth (payoff-worth-calls t) (payoff-worth-at t) payoff-worth.Post
 payoff-worth-sub-payoff-worth t c =
@@ -103,15 +104,15 @@ payoff-worth-payoff-worth-requires t c κs =
     let s = c .before .before .before .before .before .before in
     let h = s .pre .1 in
     let n = payoff-worth-here t (c .before .before .before .before .before) letter.Times (c .before .before .before .enum-told4 .given .1) in
-    (omega (arith, n .some), rw (c .link .ensures) (h .0, h .1, parts.same-waited (n .some) (h .2), h .3, h .4, n .stands .1 .1, n .range .1))
+    (omega (arith, n .some), rw (c .before .before .link .ensures) (h .0, h .1, parts.same-waited (n .some) (h .2), h .3, h .4, n .stands .1 .1, n .range .1, n .blocks .1))
 
 payoff-worth-scaled-requires : (t : ℕ) → payoff-worth-lts.Need-scaled-requires (payoff-worth-calls t) (payoff-worth-at t) payoff-worth.Post
 payoff-worth-scaled-requires t c κs =
     let s = c .before .before .before .before .before .before .before in
     let a = s .args in
-    let f : SFits w64 (c .before .before .before .checked-value .result) = search needs in
+    let f : SFits w64 (c .before .before .value-in .result) = search needs in
     let n = payoff-worth-here t (c .before .before .before .before .before .before) letter.Times (c .before .before .before .before .enum-told4 .given .1) in (
-      valued-small (a .h .0) (a .f .0) (a .bounds .now .now) (a .values .now .now) _ _ (c .before .before .valued .result) (c .before .before .valued .ensures ∙ ap valuedIn (toZ-ofZ f) ∙ c .before .before .before .checked-value .ensures),
+      valued-small (a .h .0) (a .f .0) (a .bounds .now .now) (a .values .now .now) _ _ (c .before .valued .result) (c .before .valued .ensures ∙ ap valuedIn (toZ-ofZ f) ∙ c .before .before .value-in .ensures),
       arms.part-small (a .h .0) (a .f .0) (a .factors .now) (a .bounds .now .now) (a .values .now .now) (a .pair .p) (a .pair .q) _ _ _ (c .payoff-worth .result) (c .payoff-worth .ensures),
     )
 
@@ -131,7 +132,7 @@ payoff-worth-payoff-worth-requires-2 t c κs =
     let s = c .before .before .before in
     let h = s .pre .1 in
     let n = payoff-worth-here t (c .before .before) letter.Plus (c .enum-told5 .given .1) in
-    (omega (arith, n .some), (h .0, h .1, parts.same-waited (n .some) (h .2), h .3, h .4, n .stands .0, n .range .0))
+    (omega (arith, n .some), (h .0, h .1, parts.same-waited (n .some) (h .2), h .3, h .4, n .stands .0, n .range .0, n .blocks .0))
 
 payoff-worth-link-requires-2 : (t : ℕ) → payoff-worth-lts.Need-link-requires-2 (payoff-worth-calls t) (payoff-worth-at t) payoff-worth.Post
 payoff-worth-link-requires-2 t c κs =
@@ -149,7 +150,7 @@ payoff-worth-payoff-worth-requires-3 t c κs =
     let s = c .before .before .before .before .before in
     let h = s .pre .1 in
     let n = payoff-worth-here t (c .before .before .before .before) letter.Plus (c .before .before .enum-told5 .given .1) in
-    (omega (arith, n .some), rw (c .link2 .ensures) (h .0, h .1, parts.same-waited (n .some) (h .2), h .3, h .4, n .stands .1 .1, n .range .1))
+    (omega (arith, n .some), rw (c .link2 .ensures) (h .0, h .1, parts.same-waited (n .some) (h .2), h .3, h .4, n .stands .1 .1, n .range .1, n .blocks .1))
 
 payoff-worth-added-requires : (t : ℕ) → payoff-worth-lts.Need-added-requires (payoff-worth-calls t) (payoff-worth-at t) payoff-worth.Post
 payoff-worth-added-requires t c κs =
@@ -197,7 +198,7 @@ payoff-worth-payoff-worth-requires-4 t c κs =
     let e = sym (ap waitAnswer (c .before .before .w .given .1)) ∙ c .before .before .before .before .wait-for .ensures .0 in
     let k = subst WaitKnown (c .before .before .w .given .1) (c .before .before .before .before .wait-for .ensures .1) in
     let l = parts.waits-within _ _ _ (hit (natOf (c .before .before .w .given .0 .0 .0))) (sym e) in
-    (omega (arith, n .some), rw (c .link3 .ensures) (h .0, h .1, parts.part-waited n (h .2) (c .before .before .before .before .before .delay .ensures) k l, h .3, h .4, n .stands .1 .1, n .range .2))
+    (omega (arith, n .some), rw (c .link3 .ensures) (h .0, h .1, parts.part-waited n (h .2) (c .before .before .before .before .before .delay .ensures) k l, h .3, h .4, n .stands .1 .1, n .range .2, n .blocks .1))
 
 payoff-worth-link-requires-4 : (t : ℕ) → payoff-worth-lts.Need-link-requires-4 (payoff-worth-calls t) (payoff-worth-at t) payoff-worth.Post
 payoff-worth-link-requires-4 t c κs =
@@ -218,7 +219,7 @@ payoff-worth-payoff-worth-requires-5 t c κs =
     let e = sym (ap waitAnswer (c .before .before .w2 .given .1)) ∙ c .before .before .before .before .wait-for .ensures .0 in
     let k = subst WaitKnown (c .before .before .w2 .given .1) (c .before .before .before .before .wait-for .ensures .1) in
     let l = parts.waits-within _ _ _ (miss (natOf (c .before .before .w2 .given .0 .0 .0))) (sym e) in
-    (omega (arith, n .some), rw (c .link4 .ensures) (h .0, h .1, parts.part-waited n (h .2) (c .before .before .before .before .before .delay .ensures) k l, h .3, h .4, n .stands .2 .1, n .range .3))
+    (omega (arith, n .some), rw (c .link4 .ensures) (h .0, h .1, parts.part-waited n (h .2) (c .before .before .before .before .before .delay .ensures) k l, h .3, h .4, n .stands .2 .1, n .range .3, n .blocks .2))
 
 payoff-worth-returns : (t : ℕ) → payoff-worth-lts.Need-returns (payoff-worth-calls t) (payoff-worth-at t) payoff-worth.Post
 payoff-worth-returns t c =
@@ -246,9 +247,9 @@ payoff-worth-returns-4 : (t : ℕ) → payoff-worth-lts.Need-returns-4 (payoff-w
 payoff-worth-returns-4 t c =
     let s = c .before .before .before .before .before .before .before .before in
     let a = s .args in
-    let f : SFits w64 (c .before .before .before .before .checked-value .result) = search needs in
+    let f : SFits w64 (c .before .before .before .value-in .result) = search needs in
     let n = payoff-worth-here t (c .before .before .before .before .before .before .before) letter.Times (c .before .before .before .before .before .enum-told4 .given .1) in
-    arms.times-arm (a .h .0) (a .f .0) (a .factors .now) (a .bounds .now .now) (a .values .now .now) (a .pair .p) (a .pair .q) _ _ _ _ _ n (c .before .before .link .ensures) (c .before .before .before .valued .ensures ∙ ap valuedIn (toZ-ofZ f) ∙ c .before .before .before .before .checked-value .ensures) (c .before .payoff-worth .ensures) (c .scaled .ensures)
+    arms.times-arm (a .h .0) (a .f .0) (a .factors .now) (a .bounds .now .now) (a .values .now .now) (a .pair .p) (a .pair .q) _ _ _ _ _ n (c .before .before .before .before .link .ensures) (c .before .before .valued .ensures ∙ ap valuedIn (toZ-ofZ f) ∙ c .before .before .before .value-in .ensures) (c .before .payoff-worth .ensures) (c .scaled .ensures)
 
 payoff-worth-returns-5 : (t : ℕ) → payoff-worth-lts.Need-returns-5 (payoff-worth-calls t) (payoff-worth-at t) payoff-worth.Post
 payoff-worth-returns-5 t c =
@@ -298,10 +299,10 @@ payoff-worth-part t =
     (λ c. search needs)
     (payoff-worth-leaf-worth-requires-2 t)
     (λ c. search needs)
-    (payoff-worth-add-checked-value t)
-    (payoff-worth-checked-value-requires t)
-    (λ c κs. search needs)
     (payoff-worth-link-requires t)
+    (payoff-worth-add-value-in t)
+    (payoff-worth-value-in-requires t)
+    (λ c κs. search needs)
     (payoff-worth-sub-payoff-worth t)
     (payoff-worth-payoff-worth-requires t)
     (payoff-worth-scaled-requires t)

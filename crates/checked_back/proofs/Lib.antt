@@ -1,0 +1,2 @@
+-- Laws of the way back.
+pub mod CheckedWay

@@ -1,0 +1,2 @@
+-- What the way back answers.
+pub mod Backs
