@@ -8,7 +8,7 @@ use Rattle.integers.specs.Bounded.{Small}
 use Rattle.language.specs.Answer.{got}
 use Rattle.language.specs.Limits.{maxNodes}
 use Rattle.language.specs.Payments.Amounts.{value}
-use Rattle.measures.specs.Blocks.{AmountBlock}
+use Rattle.nodes.specs.Blocks.{AmountBlock}
 use Rattle.nodes.specs.Found.{amountAt, offsetOf}
 use lib.IntN.{_+ℤ_, natAbs, pos, ℤ}
 use lib.ListN.{getD, length}

@@ -4,8 +4,8 @@ use Rattle.amounts.specs.Fine.{Divides}
 use Rattle.integers.specs.Rounding.{floorZ}
 use Rattle.language.specs.Answer.{Answer, got, refused}
 use Rattle.language.specs.Text.Trees.{Amount, Test, choose, conjunction, difference, disjunction, equal, index, less, negation, number, product, quotient, sum}
-use Rattle.measures.proofs.RowLetters.{test-no-amount}
-use Rattle.measures.specs.Blocks.{AmountBlock, TestBlock, amountBlock, testBlock}
+use Rattle.nodes.proofs.TestLetters.{test-no-amount}
+use Rattle.nodes.specs.Blocks.{AmountBlock, TestBlock, amountBlock, testBlock}
 use Rattle.nodes.specs.Found.{amountAt, amountBy, offsetOf, testAt, testBy}
 use Rattle.nodes.specs.Letters.{amountLetter, testLetter}
 use Rattle.nodes.specs.Table.{linkAt, natOf, slotAt}

@@ -7,7 +7,7 @@ ghost use Rattle.amounts.specs.Fine.{Fine, MonthIn};
 ghost use Rattle.amounts.specs.Flat.{flat};
 ghost use Rattle.backwards.specs.Backs.{BackIs};
 ghost use Rattle.language.specs.Payments.Amounts.{value};
-ghost use Rattle.measures.specs.Blocks.{AmountBlock};
+ghost use Rattle.nodes.specs.Blocks.{AmountBlock};
 ghost use Rattle.nodes.specs.Found.{amountAt, offsetOf};
 ghost use Rattle.nodes.specs.Stands.{AmountStands};
 ghost use Rattle.nodes.specs.Table.{natOf};

@@ -25,7 +25,7 @@ use Rattle.language.specs.Payoff.Evaluate.{checkedHolds, checkedValue, inRange}
 use Rattle.language.specs.Rules.Table.{readable, valueAt}
 use Rattle.language.specs.Text.Form.{fieldsOfAmount, fieldsOfTest}
 use Rattle.language.specs.Text.Trees.{Amount}
-use Rattle.measures.specs.Blocks.{AmountBlock}
+use Rattle.nodes.specs.Blocks.{AmountBlock}
 use Rattle.nodes.specs.Found.{amountAt, offsetOf}
 use Rattle.nodes.specs.Table.{natOf, slotAt}
 use Rattle.nodes.specs.declared.AmountLetter.the-variants as amount

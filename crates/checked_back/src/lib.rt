@@ -8,7 +8,7 @@ ghost use Rattle.checked.specs.Coded.{valuedIn};
 ghost use Rattle.checked.specs.Ranges.{Near, Readable, Waited};
 ghost use Rattle.checked_back.specs.Backs.{BackIn};
 ghost use Rattle.language.specs.Text.Form.{fieldsOfAmount};
-ghost use Rattle.measures.specs.Blocks.{AmountBlock};
+ghost use Rattle.nodes.specs.Blocks.{AmountBlock};
 ghost use Rattle.nodes.specs.Found.{amountAt, offsetOf};
 ghost use Rattle.nodes.specs.Stands.{AmountStands};
 ghost use Rattle.nodes.specs.Table.{natOf};

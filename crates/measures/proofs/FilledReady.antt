@@ -10,7 +10,7 @@ use Rattle.language.specs.Text.Letters.{planForm}
 use Rattle.language.specs.Text.Plans.{planTrees}
 use Rattle.language.specs.Text.Reader.{Trees}
 use Rattle.language.specs.Text.Trees.{Amount, Delay, Plan, Test, months, nothing}
-use Rattle.measures.proofs.BlocksLaid.{plan-blocks}
+use Rattle.nodes.proofs.BlocksLaid.{plan-blocks}
 use Rattle.measures.specs.Ready.{PlanReady}
 use Rattle.nodes.proofs.AmountsFound.{Finds}
 use Rattle.nodes.proofs.Laid.{Laid}

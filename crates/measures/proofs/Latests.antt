@@ -5,7 +5,7 @@ use Rattle.language.specs.Limits.{maxNodes}
 use Rattle.language.specs.Rules.Measures.{Latest, atMost, laterOf, latestOf, latestOfTest, maxZ, noMonth}
 use Rattle.measures.proofs.Firsts.{later-latest}
 use Rattle.measures.proofs.RowsTogether.{Joins, amount-rows, reading, test-rows}
-use Rattle.measures.specs.Blocks.{AmountBlock, TestBlock}
+use Rattle.nodes.specs.Blocks.{AmountBlock, TestBlock}
 use Rattle.measures.specs.Rows.{isIndex, rowLatest, rowsLatest, rowsOf}
 use Rattle.measures.specs.Timing.{latestMonth}
 use Rattle.nodes.specs.Found.{amountAt, offsetOf, testAt}

@@ -1,7 +1,6 @@
 -- Laws of the walks.
 pub mod AmountMagnitudes
 pub mod Amounts
-pub mod BlocksLaid
 pub mod Fields
 pub mod FilledReady
 pub mod Firsts

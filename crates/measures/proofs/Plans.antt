@@ -4,7 +4,7 @@ use Rattle.language.specs.Limits.{maxDepth, maxMonths, maxNodes}
 use Rattle.language.specs.Text.Form.{fieldsOf, filledInForm}
 use Rattle.language.specs.Text.Trees.{Plan}
 use Rattle.measures.proofs.Amounts.{one-less}
-use Rattle.measures.specs.Blocks.{AmountBlock, PlanBlocks, TestBlock}
+use Rattle.nodes.specs.Blocks.{AmountBlock, PlanBlocks, TestBlock}
 use Rattle.measures.specs.Ready.{AmountReady, PlanReady, TestReady}
 use Rattle.nodes.proofs.Signed.{key}
 use Rattle.nodes.specs.Found.{amountAt, offsetOf, planAt, planBy, testAt}

@@ -7,7 +7,7 @@ use Rattle.language.specs.Limits.{maxNodes}
 use Rattle.language.specs.Rules.Table.{Table, readable}
 use Rattle.language.specs.Rules.Tests.{amountReads, testReads}
 use Rattle.measures.proofs.RowsTogether.{Joins, amount-rows, reading, test-rows}
-use Rattle.measures.specs.Blocks.{AmountBlock, TestBlock}
+use Rattle.nodes.specs.Blocks.{AmountBlock, TestBlock}
 use Rattle.measures.specs.Rows.{inWindow, isIndex, rowReads, rowsOf, rowsRead}
 use Rattle.measures.specs.Spans.{Seen, windowOf}
 use Rattle.measures.specs.declared.reads.Window.{Window}

@@ -4,9 +4,9 @@ use Rattle.language.specs.Limits.{maxAmount, maxNodes}
 use Rattle.language.specs.Rules.Measures.{magnitudeOfAmount}
 use Rattle.language.specs.Rules.Tests.{amountSmall, testSmall}
 use Rattle.language.specs.Text.Trees.{Amount, Test, choose, conjunction, difference, disjunction, equal, index, less, negation, number, product, quotient, sum}
-use Rattle.measures.proofs.RowLetters.{test-no-amount}
+use Rattle.nodes.proofs.TestLetters.{test-no-amount}
 use Rattle.measures.proofs.RowsTogether.{RowJoins, amount-rows, test-rows}
-use Rattle.measures.specs.Blocks.{AmountBlock, TestBlock}
+use Rattle.nodes.specs.Blocks.{AmountBlock, TestBlock}
 use Rattle.measures.specs.Magnitudes.{beyond, measuredAmount}
 use Rattle.measures.specs.Rows.{magnitudeBy, rowMagnitude, rowsMagnitude, rowsOf}
 use Rattle.nodes.specs.Found.{amountAt, offsetOf, testAt}

@@ -2,7 +2,7 @@
 use Prim.Native.Nat.{_+_, _-_, _<_, _≤_, suc, zero, ℕ}
 use Rattle.language.specs.Text.Trees.{Amount, Test, choose, conjunction, difference, disjunction, equal, index, less, negation, number, product, quotient, sum}
 use Rattle.measures.proofs.RowLetters.{amount-index, amount-other, test-other}
-use Rattle.measures.specs.Blocks.{AmountBlock, TestBlock, amountBlock, testBlock}
+use Rattle.nodes.specs.Blocks.{AmountBlock, TestBlock, amountBlock, testBlock}
 use Rattle.measures.specs.Rows.{isIndex, rowBy, rowsOf}
 use Rattle.nodes.specs.Found.{amountAt, amountBy, offsetOf, testAt, testBy}
 use Rattle.nodes.specs.Letters.{amountLetter, testLetter}

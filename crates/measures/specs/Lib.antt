@@ -1,5 +1,4 @@
 -- What a walk of a filled plan may rely on, and how its answers stand for document 01's.
-pub mod Blocks
 pub mod Magnitudes
 pub mod PlanMeasures
 pub mod Ready

@@ -3,7 +3,7 @@
 use Prim.Native.Nat.{_+_, _≤_, ℕ}
 use Rattle.language.specs.Limits.{maxDepth}
 use Rattle.language.specs.Text.Form.{fieldsOf, fieldsOfAmount, fieldsOfTest, filledInForm, offsetInForm}
-use Rattle.measures.specs.Blocks.{PlanBlocks}
+use Rattle.nodes.specs.Blocks.{PlanBlocks}
 use Rattle.nodes.specs.Found.{amountAt, offsetOf, planAt, testAt}
 use Rattle.nodes.specs.Stands.{AmountStands, Forward, PlanStands, TestStands}
 use Rattle.nodes.specs.Table.{RowIn, linkAt, natOf}

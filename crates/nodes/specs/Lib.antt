@@ -1,4 +1,5 @@
 -- The node table: how a plan or payoff lies in it, and how it is found there.
+pub mod Blocks
 pub mod Found
 pub mod Letters
 pub mod Pass

@@ -17,7 +17,7 @@ use Rattle.language.specs.Rules.Table.{monthOk, settingAt, settingsOk, tableOk}
 use Rattle.language.specs.Text.Letters.{payoffForm}
 use Rattle.language.specs.Text.Plans.{Written, payoffTrees, printPayoff, readPayoff}
 use Rattle.language.specs.Text.Reader.{end, readText}
-use Rattle.measures.specs.Blocks.{PayoffBlocks}
+use Rattle.nodes.specs.Blocks.{PayoffBlocks}
 use Rattle.nodes.proofs.AmountsFound.{Finds}
 use Rattle.nodes.proofs.Laid.{rows-length}
 use Rattle.nodes.specs.Found.{offsetOf, payoffAt}

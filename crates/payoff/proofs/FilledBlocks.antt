@@ -15,8 +15,8 @@ use Rattle.language.specs.Text.Plans.{Written}
 use Rattle.language.specs.Text.Reader.{Trees, end}
 use Rattle.language.specs.Text.Trees.{await, cut, leaf, months, nil, plus, times, uncut}
 use Rattle.language.specs.Text.Typed.{amountTree, testTree}
-use Rattle.measures.proofs.BlocksLaid.{amount-block, links, test-block}
-use Rattle.measures.specs.Blocks.{PayoffBlocks}
+use Rattle.nodes.proofs.BlocksLaid.{amount-block, links, test-block}
+use Rattle.nodes.specs.Blocks.{PayoffBlocks}
 use Rattle.nodes.proofs.AmountsFound.{amount-first, byte-at, second-at, test-first, third-at}
 use Rattle.nodes.proofs.Laid.{IsNode, Laid, inner}
 use Rattle.nodes.specs.Letters.{payoffLetter}

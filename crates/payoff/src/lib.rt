@@ -10,7 +10,7 @@ ghost use lib.Signed.{nonNeg};
 ghost use Rattle.checked.specs.Ranges.{Readable};
 ghost use Rattle.language.specs.Calls.{compileCall, cutCall, evaluateCall, over, pairOk};
 ghost use Rattle.language.specs.Text.Number.{between};
-ghost use Rattle.measures.specs.Blocks.{PayoffBlocks};
+ghost use Rattle.nodes.specs.Blocks.{PayoffBlocks};
 ghost use Rattle.nodes.specs.Found.{offsetOf, payoffAt};
 ghost use Rattle.nodes.specs.Stands.{PayoffStands};
 ghost use Rattle.nodes.specs.Table.{natOf};

@@ -27,8 +27,8 @@ use Rattle.language.specs.Text.Plans.{planTrees}
 use Rattle.language.specs.Text.Reader.{Trees, end}
 use Rattle.language.specs.Text.Trees.{Amount, Plan, Test, both, later, months, nothing, scale, transfer, within}
 use Rattle.language.specs.Text.Typed.{amountTree, testTree}
-use Rattle.measures.proofs.BlocksLaid.{amount-block}
-use Rattle.measures.specs.Blocks.{AmountBlock}
+use Rattle.nodes.proofs.BlocksLaid.{amount-block}
+use Rattle.nodes.specs.Blocks.{AmountBlock}
 use Rattle.nodes.proofs.AmountsFound.{byte-at}
 use Rattle.nodes.proofs.Laid.{laid-slot}
 use Rattle.nodes.specs.Found.{offsetOf, testAt}

@@ -26,7 +26,7 @@ use Rattle.language.specs.Text.Plans.{planTrees}
 use Rattle.language.specs.Text.Reader.{end}
 use Rattle.language.specs.Text.Trees.{both, later, scale, within}
 use Rattle.language.specs.Text.Typed.{amountTree, testTree}
-use Rattle.measures.specs.Blocks.{AmountBlock}
+use Rattle.nodes.specs.Blocks.{AmountBlock}
 use Rattle.nodes.proofs.Signed.{natOf-known}
 use Rattle.nodes.specs.Found.{offsetOf, testAt}
 use Rattle.nodes.specs.Letters.{planLetter}

@@ -7,7 +7,7 @@ ghost use Rattle.amounts.specs.Fine.{Fine, FineTest, MonthIn};
 ghost use Rattle.amounts.specs.Flat.{flat};
 ghost use Rattle.language.specs.Calls.{signOf};
 ghost use Rattle.language.specs.Payments.Amounts.{holds, value};
-ghost use Rattle.measures.specs.Blocks.{AmountBlock};
+ghost use Rattle.nodes.specs.Blocks.{AmountBlock};
 ghost use Rattle.nodes.specs.Found.{amountAt, offsetOf, testAt};
 ghost use Rattle.nodes.specs.Stands.{AmountStands, TestStands};
 ghost use Rattle.nodes.specs.Table.{RowIn, natOf, slotAt};

@@ -6,7 +6,7 @@ use mathlib.Core.Path.{_∙_, _≡_, subst, sym}
 use native.Mathlib.Omega.{arith}
 use Rattle.language.specs.Limits.{maxNodes}
 use Rattle.language.specs.Text.Trees.{Payoff}
-use Rattle.measures.specs.Blocks.{AmountBlock, PayoffBlocks, TestBlock}
+use Rattle.nodes.specs.Blocks.{AmountBlock, PayoffBlocks, TestBlock}
 use Rattle.nodes.specs.Found.{amountAt, offsetOf, payoffAt, payoffBy, testAt}
 use Rattle.nodes.specs.Letters.{payoffLetter}
 use Rattle.nodes.specs.Stands.{AmountStands, Forward, PayoffStands, TestStands, payoffAsks}

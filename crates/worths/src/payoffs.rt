@@ -3,7 +3,7 @@ ghost use mathlib.Core.Path.{_≡_};
 ghost use lib.Dec.{T};
 ghost use lib.Signed.{nonNeg};
 ghost use Rattle.checked.specs.Ranges.{Readable};
-ghost use Rattle.measures.specs.Blocks.{PayoffBlocks};
+ghost use Rattle.nodes.specs.Blocks.{PayoffBlocks};
 ghost use Rattle.nodes.specs.Found.{offsetOf, payoffAt};
 ghost use Rattle.nodes.specs.Stands.{PayoffStands};
 ghost use Rattle.nodes.specs.Table.{natOf};

@@ -8,13 +8,13 @@ use Rattle.language.specs.Text.Plans.{planTrees}
 use Rattle.language.specs.Text.Reader.{Trees, end, node}
 use Rattle.language.specs.Text.Trees.{Amount, Delay, Plan, Test, both, choose, conjunction, difference, disjunction, equal, index, later, less, negation, nothing, number, product, quotient, scale, sum, transfer, within}
 use Rattle.language.specs.Text.Typed.{amountTree, testTree}
-use Rattle.measures.specs.Blocks.{AmountBlock, PlanBlocks, TestBlock}
+use Rattle.nodes.specs.Blocks.{AmountBlock, PlanBlocks, TestBlock}
 use Rattle.nodes.proofs.AmountsFound.{amount-first, byte-at, second-at, test-first, third-at}
 use Rattle.nodes.proofs.Laid.{IsNode, Laid, inner, laid-child, laid-slot, link-is}
 use Rattle.nodes.proofs.PlansFound.{plan-first}
 use Rattle.nodes.specs.Letters.{amountLetter, planLetter, testLetter}
 use Rattle.nodes.specs.Rows.{behindFirst, countOf, firstCount, lastSlots, secondLink, slotsOf, thirdLink}
 use Rattle.nodes.specs.Table.{linkAt, slotAt}
 use lib.IntN.{pos, ℤ}
 use lib.ListN.{getD}
 use mathlib.Core.List.{List, [], _∷_}
