@@ -9,6 +9,7 @@
 #   make clean
 #
 # LIB=FILE takes a library that is built already, in place of `rt staticlib unit`.
+# OBJCOPY= names another objcopy; it has to know --set-section-alignment, as GNU's does since 2.33.
 .POSIX:
 
 VERSION = 0.1.0
@@ -17,6 +18,7 @@ DESTDIR =
 LIB = target/staticlib/libunit.a
 CC = cc
 CXX = c++
+OBJCOPY = objcopy
 CFLAGS = -O2
 CXXFLAGS = -O2
 
@@ -29,10 +31,13 @@ target/staticlib/libunit.a: $(SOURCES)
 	rt staticlib unit
 	touch $@
 
-# Copied whenever it is another library, however old that is.
+# The same code, each function at the start of a cache line: where the compiler puts it moves a loop's time by up to 7 %.
+# Put in place whenever it is another library, however old that is.
 build/libcodhungu.a: $(LIB) always
 	@mkdir -p build
-	cmp -s $(LIB) $@ || cp $(LIB) $@
+	$(OBJCOPY) --set-section-alignment '.text.*=64' $(LIB) build/aligned.a
+	cmp -s build/aligned.a $@ || cp build/aligned.a $@
+	@rm build/aligned.a
 
 build/codhungu.pc: codhungu.pc.in always
 	@mkdir -p build
