@@ -18,4 +18,5 @@ pub mod RowLetters
 pub mod RowSums
 pub mod RowsTogether
 pub mod SameReads
+pub mod SurePlans
 pub mod Windows

@@ -28,7 +28,7 @@ use mathlib.Core.Path.{_∙_, _≡_, ap, ap₂, refl, subst, sym}
 use native.Mathlib.Omega.{arith}
 
 -- what the code answers of a latest read and a first month
-abbrev InTime : ℕ → ℕ → Bool → Type 0
+abbrev pub InTime : ℕ → ℕ → Bool → Type 0
 InTime k n r = (y : Latest) (x : First) → FewMonths x → k ≡ latestMonth y → n ≡ firstMonth x → r ≡ notAfter y x
 
 module _ (t : Table) (a z : ℕ) (bound : ℕ → ℕ) where

@@ -11,7 +11,7 @@ use Rattle.nodes.specs.Found.{amountAt, offsetOf, planAt, planBy, testAt}
 use Rattle.nodes.specs.Letters.{planLetter}
 use Rattle.nodes.specs.Stands.{AmountStands, Forward, PlanStands, TestStands, planAsks}
 use Rattle.nodes.specs.Table.{RowIn, linkAt, natOf, slotAt}
-use Rattle.nodes.specs.declared.PlanLetter.the-variants.{Both, Later, Scale, Transfer, Within}
+use Rattle.nodes.specs.declared.PlanLetter.the-variants.{Both, Later, Nothing, Scale, Transfer, Within}
 use Rattle.nodes.specs.declared.PlanLetter.{PlanLetter}
 use lib.IntN.{ℤ}
 use mathlib.Core.List.{List}
@@ -127,8 +127,13 @@ module _ {left at : ℕ} {nodes : List ℤ} (h : PlanReady left nodes at) where
           (a .2 .0, record { depth = shallow; stands = a .2 .1; fields = f .3; blocks = b .2 }),
         )
 
--- ---- a transfer, by its key
+-- ---- a transfer and a plan that pays nothing, by their keys
 
-pub transfer-key : {s x : ℤ} → SFits w64 s → s ≡ x → ofZ w64 s ≡ 84 → planLetter x ≡ Transfer
-unfolding planLetter
-transfer-key f e k = rw (← e, key f k) refl
+module _ {s x : ℤ} (f : SFits w64 s) (e : s ≡ x) where
+  pub transfer-key : ofZ w64 s ≡ 84 → planLetter x ≡ Transfer
+  unfolding planLetter
+  transfer-key k = rw (← e, key f k) refl
+
+  pub nothing-key : ofZ w64 s ≡ 90 → planLetter x ≡ Nothing
+  unfolding planLetter
+  nothing-key k = rw (← e, key f k) refl

@@ -4,4 +4,5 @@ pub mod PlanMeasures
 pub mod Ready
 pub mod Rows
 pub mod Spans
+pub mod Sure
 pub mod Timing

@@ -4,5 +4,6 @@ pub mod limit;
 pub mod magnitude;
 pub mod node;
 pub mod plan;
+pub mod quick;
 pub mod reads;
 pub mod rows;

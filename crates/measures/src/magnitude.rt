@@ -53,8 +53,8 @@ pub fn amount_magnitude(nodes: &&[i64], at: usize, left: usize, bounds: &[i64]) 
         AmountLetter::Quotient => amount_magnitude(nodes, at + 1, left - 1, bounds),
         AmountLetter::Choose => {
             let t = test_small(nodes, at + 1, left - 1, bounds);
-            let x = amount_magnitude(nodes, nodes::link(nodes, at, 3), left - 1, bounds);
-            let y = amount_magnitude(nodes, nodes::link(nodes, at, 4), left - 1, bounds);
+            let x = operand(nodes, nodes::link(nodes, at, 3), left - 1, bounds);
+            let y = operand(nodes, nodes::link(nodes, at, 4), left - 1, bounds);
             limit::greater_where(t, x, y)
         }
         AmountLetter::NoAmount => 0,

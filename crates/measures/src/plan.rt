@@ -38,7 +38,7 @@ pub struct Measures {
 // ---- an amount and a test, from the magnitudes of their rows summed
 
 // The magnitude of an amount: the sum, or by a walk where that is beyond the limit.
-fn amount_of(nodes: &&[i64], at: usize, rows: u64, bounds: &[i64]) -> u64
+pub fn amount_of(nodes: &&[i64], at: usize, rows: u64, bounds: &[i64]) -> u64
     requires { ⌜ AmountReady 512 (now (now nodes)) at × InBounds (now bounds)
         × (rows ≤ maxAmount → rows ≡ measuredAmount (boundIn (now bounds)) (amountAt offsetOf 512 (now (now nodes)) at)) ⌝ }
     ensures { λ r. ⌜ r ≡ measuredAmount (boundIn (now (bounds .entry))) (amountAt offsetOf 512 (now (now (nodes .entry))) at) ⌝ }
@@ -50,7 +50,7 @@ fn amount_of(nodes: &&[i64], at: usize, rows: u64, bounds: &[i64]) -> u64
 }
 
 // Whether a test is small: so it is where the sum is within the limit.
-fn test_of(nodes: &&[i64], at: usize, rows: u64, bounds: &[i64]) -> bool
+pub fn test_of(nodes: &&[i64], at: usize, rows: u64, bounds: &[i64]) -> bool
     requires { ⌜ TestReady 512 (now (now nodes)) at × InBounds (now bounds)
         × (rows ≤ maxAmount → testSmall (boundIn (now bounds)) (testAt offsetOf 512 (now (now nodes)) at) ≡ true) ⌝ }
     ensures { λ r. ⌜ r ≡ testSmall (boundIn (now (bounds .entry))) (testAt offsetOf 512 (now (now (nodes .entry))) at) ⌝ }

@@ -1,5 +1,5 @@
 -- The rules of a filled plan in their order, as the code goes through them.
-use Prim.Native.Nat.{_+_, _≤_, ℕ}
+use Prim.Native.Nat.{_%_, _+_, _/_, _≤_, ℕ}
 use borrow.Author.Tests.{le-leb, lt-leb}
 use lib.Dec.{T, leb}
 use lib.IntN.{_+ℤ_, _-ℤ_, natAbs, negsuc, pos, ℤ}
@@ -14,21 +14,23 @@ use mir.Val.{SFits, toZ}
 use native.Mathlib.Omega.{arith}
 use Rattle.integers.proofs.Laws.{natAbs-sub, sfits64}
 use Rattle.integers.proofs.Locals.{rd, small-fits}
-use Rattle.integers.proofs.Solver.{_⊕_, _⊖_, lit, ring, var}
+use Rattle.integers.proofs.Solver.{_⊕_, _⊖_, eq-in, lit, ring, var}
 use Rattle.integers.proofs.Tests.{lt-false, lt-true}
 use Rattle.integers.specs.Bounded.{Small}
 use Rattle.integers.specs.declared.Month.{Month}
 use Rattle.integers.specs.declared.Pence.{Pence}
 use Rattle.language.specs.Answer.{Answer}
 use Rattle.language.specs.Calls.{Checked, meetsRules}
-use Rattle.language.specs.Limits.{maxAmount, maxBack}
+use Rattle.language.specs.Limits.{maxAmount, maxBack, maxMonths}
 use Rattle.language.specs.Rules.Measures.{lengthOf, magnitudeOf}
 use Rattle.language.specs.Rules.Table.{Table}
 use Rattle.language.specs.Rules.Tests.{knownInTime, planReads, planSmall}
 use Rattle.language.specs.Text.Trees.{Plan}
 use Rattle.measures.proofs.PlanMagnitudes.{plan-within}
+use Rattle.measures.proofs.SurePlans.{nearer-few}
 use Rattle.measures.specs.Magnitudes.{boundIn, measuredPlan}
 use Rattle.measures.specs.Spans.{Near, Seen}
+use Rattle.measures.specs.Sure.{Sure}
 use Rattle.nodes.specs.Table.{natOf}
 use Rattle.rules.specs.Answers.{Natural, checkingAnswer}
 use Rattle.rules.specs.Measured.{InTable, measuredBy}
@@ -41,6 +43,10 @@ use Rattle.text.specs.declared.Refusal.the-variants.{Length, Magnitude, NotInTi
 from-zero : (z : ℤ) → T (nonNeg z) → z ≡ pos (natOf z)
 from-zero (pos n) h = refl
 from-zero (negsuc n) h = absurd h
+
+natOf-least : (z : ℤ) {b : ℕ} → natAbs z ≤ b → natOf z ≤ b
+natOf-least (pos n) h = h
+natOf-least (negsuc n) h = omega arith
 
 pub few-months : (today : ℤ) (s : Span) (bounds : List ℤ) → InTable today (s .h) (s .f) bounds → Small today
 few-months today s bounds h = record { small = omega (arith, h .todayTo) }
@@ -90,6 +96,12 @@ module _ (today : ℤ) (s : Span) (bounds : List ℤ) (h : InTable today (s .h) 
       highRoom = omega (arith, natAbs-sub (s .f) today, h .fTo, h .todayTo);
     })
 
+    pub high-today : Small high
+    high-today = record { small = omega (arith, near-today .highRoom) }
+
+    pub few-today : natOf high ≤ maxMonths
+    few-today = nearer-few (rd (s .f)) (rw end-reads (natOf-least (s .f) (h .fTo))) (from-zero today (h .todayFrom)) eh
+
     pub seen-today : Seen low high (length bounds) (tableOf (s .h) (s .f) [] bounds []) (natOf today) (natOf today)
     seen-today =
         let e = from-zero today (h .todayFrom) in
@@ -121,6 +133,25 @@ module _ (today : ℤ) (s : Span) (bounds : List ℤ) (x : Plan ℕ) (h : InTabl
       go : (f : ℤ) → T (nonNeg f) → ltZ f (pos (natOf today) +ℤ pos (lengthOf x)) ≡ false → leb (natOf today + lengthOf x) (natAbs f) ≡ true
       go (pos n) p q = le-leb (natOf today + lengthOf x) n (omega (arith, lt-false (pos n) (pos (natOf today + lengthOf x)) q))
       go (negsuc n) p q = absurd p
+
+  -- a plan that keeps every rule, `high` months from the table's end; r is its number
+  module _ {high : ℤ} {r : ℕ} (eh : high ≡ rd (s .f) -ℤ today) (k : Sure table (natOf today) (natOf today) (boundIn bounds) 0 high x r) where
+    ended : leb (natOf today + lengthOf x) (natAbs (s .f)) ≡ true
+    ended = le-leb (natOf today + lengthOf x) (natAbs (s .f)) (go (s .f) (h .fFrom) (sym (eh ∙ ap₂ _-ℤ_ (end-reads today s bounds h) (from-zero today (h .todayFrom))) ∙ k .length))
+      where
+        go : (f : ℤ) → T (nonNeg f) → f -ℤ pos (natOf today) ≡ pos (lengthOf x + r % 1024) → natOf today + lengthOf x ≤ natAbs f
+        go (pos n) p q = omega (arith, eq-in (lit n ⊖ lit (natOf today)) (lit (lengthOf x + r % 1024)) q)
+        go (negsuc n) p q = absurd p
+
+    -- its length: high less the months left behind its end
+    lasting : {l : ℤ} → l ≡ high -ℤ toZ w64 (r % 1024) → l ≡ pos (lengthOf x)
+    lasting el =
+        el ∙ ap₂ _-ℤ_ (k .length) (plain-read {m = r % 1024} (omega arith))
+        ∙ ring (lit (lengthOf x + r % 1024) ⊖ lit (r % 1024)) (lit (lengthOf x)) (omega arith)
+
+    pub all-kept : (l : Month) → l .0 ≡ high -ℤ toZ w64 (r % 1024) → (p : Pence) → p .0 ≡ pos (r / 1024) → (checkingAnswer (Accepted l p) ≡ answer) × Natural (Accepted l p)
+    unfolding checkingAnswer meetsRules
+    all-kept l el p ep = rw (ended, k .reads, k .known, k .small) (rw (lasting el, ep, k .magnitude) (refl, (tt, tt)))
 
   pub too-long : (l : ℤ) → l ≡ pos (lengthOf x) → ltZ (s .f) (today +ℤ l) ≡ true → checkingAnswer (Refused Length) ≡ answer
   unfolding checkingAnswer meetsRules

@@ -24,7 +24,7 @@ pub enum Checking {
 }
 
 // Length 10, reads 11, known in time 7, magnitude 6.
-pub fn measure(nodes: &[i64], today: Month, span: Span, bounds: &[i64]) -> Checking
+fn measure_in_order(nodes: &[i64], today: Month, span: Span, bounds: &[i64]) -> Checking
     requires { ⌜ PlanReady 32 (now nodes) 0 × InTable (today .0) (span .h) (span .f) (now bounds) ⌝ }
     ensures { λ r. ⌜ (checkingAnswer r ≡ measuredBy (span .h) (span .f) (now (bounds .entry)) (natOf (today .0)) (planAt natOf 32 (now (nodes .entry)) 0)) × Natural r ⌝ }
 {
@@ -50,6 +50,23 @@ pub fn measure(nodes: &[i64], today: Month, span: Span, bounds: &[i64]) -> Check
     } else {
         Checking::Refused(Refusal::Reads)
     }
+}
+
+// The rules of a plan. Most plans keep them all, and that is found sooner than which is broken first.
+pub fn measure(nodes: &[i64], today: Month, span: Span, bounds: &[i64]) -> Checking
+    requires { ⌜ PlanReady 32 (now nodes) 0 × InTable (today .0) (span .h) (span .f) (now bounds) ⌝ }
+    ensures { λ r. ⌜ (checkingAnswer r ≡ measuredBy (span .h) (span .f) (now (bounds .entry)) (natOf (today .0)) (planAt natOf 32 (now (nodes .entry)) 0)) × Natural r ⌝ }
+{
+    let low = measures::reads::nearer(Month(0 - span.h), today);
+    let high = measures::reads::nearer(Month(span.f), today);
+    let found = measures::quick::quick_plan(&nodes, 0, 32, low, high, 0, &bounds);
+    let magnitude = found / 1024;
+    if measures::limit::is_within(magnitude) {
+        // high less the months that are left behind the plan's end
+        let length = measures::reads::nearer(high, Month((found % 1024) as i64));
+        return Checking::Accepted(length, Pence(magnitude as i64));
+    }
+    measure_in_order(nodes, today, span, bounds)
 }
 
 // A plan that was read: 9, 12, 8, and the rules. Its open settings are filled in the table.

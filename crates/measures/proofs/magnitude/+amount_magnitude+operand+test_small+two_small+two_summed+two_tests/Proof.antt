@@ -263,13 +263,13 @@ amount-magnitude-link-requires-2 t c κs =
     let q = c .before .enum-told7 .given .1 in
     (amounts.amount-room h, omega arith, amounts.choose-ready h k q .1 .0)
 
-amount-magnitude-sub-amount-magnitude-2 : (t : ℕ) → amount-magnitude-lts.Need-sub-amount-magnitude-2 (amount-magnitude-calls t) (amount-magnitude-at t) amount-magnitude.Post
-amount-magnitude-sub-amount-magnitude-2 t c =
+amount-magnitude-sub-operand-3 : (t : ℕ) → amount-magnitude-lts.Need-sub-operand-3 (amount-magnitude-calls t) (amount-magnitude-at t) amount-magnitude.Post
+amount-magnitude-sub-operand-3 t c =
     let h = c .before .before .before .before .before .pre .1 .0 in
     omega (arith, amounts.amount-some h)
 
-amount-magnitude-amount-magnitude-requires-2 : (t : ℕ) → amount-magnitude-lts.Need-amount-magnitude-requires-2 (amount-magnitude-calls t) (amount-magnitude-at t) amount-magnitude.Post
-amount-magnitude-amount-magnitude-requires-2 t c κs =
+amount-magnitude-operand-requires-3 : (t : ℕ) → amount-magnitude-lts.Need-operand-requires-3 (amount-magnitude-calls t) (amount-magnitude-at t) amount-magnitude.Post
+amount-magnitude-operand-requires-3 t c κs =
     let h = c .before .before .before .before .before .pre .1 .0 in
     let m = c .before .before .before .before .before .pre .1 .1 in
     let k = c .before .before .before .before .amount-kind .ensures in
@@ -283,13 +283,13 @@ amount-magnitude-link-requires-3 t c κs =
     let q = c .before .before .before .enum-told7 .given .1 in
     (amounts.amount-room h, omega arith, amounts.choose-ready h k q .2 .0)
 
-amount-magnitude-sub-amount-magnitude-3 : (t : ℕ) → amount-magnitude-lts.Need-sub-amount-magnitude-3 (amount-magnitude-calls t) (amount-magnitude-at t) amount-magnitude.Post
-amount-magnitude-sub-amount-magnitude-3 t c =
+amount-magnitude-sub-operand-4 : (t : ℕ) → amount-magnitude-lts.Need-sub-operand-4 (amount-magnitude-calls t) (amount-magnitude-at t) amount-magnitude.Post
+amount-magnitude-sub-operand-4 t c =
     let h = c .before .before .before .before .before .before .before .pre .1 .0 in
     omega (arith, amounts.amount-some h)
 
-amount-magnitude-amount-magnitude-requires-3 : (t : ℕ) → amount-magnitude-lts.Need-amount-magnitude-requires-3 (amount-magnitude-calls t) (amount-magnitude-at t) amount-magnitude.Post
-amount-magnitude-amount-magnitude-requires-3 t c κs =
+amount-magnitude-operand-requires-4 : (t : ℕ) → amount-magnitude-lts.Need-operand-requires-4 (amount-magnitude-calls t) (amount-magnitude-at t) amount-magnitude.Post
+amount-magnitude-operand-requires-4 t c κs =
     let h = c .before .before .before .before .before .before .before .pre .1 .0 in
     let m = c .before .before .before .before .before .before .before .pre .1 .1 in
     let k = c .before .before .before .before .before .before .amount-kind .ensures in
@@ -298,8 +298,7 @@ amount-magnitude-amount-magnitude-requires-3 t c κs =
 
 amount-magnitude-greater-where-requires : (t : ℕ) → amount-magnitude-lts.Need-greater-where-requires (amount-magnitude-calls t) (amount-magnitude-at t) amount-magnitude.Post
 amount-magnitude-greater-where-requires t c κs =
-    let amount-magnitude2-is = c .before .before .amount-magnitude2 .ensures in
-    (laws.amount-kept _ _ amount-magnitude2-is, laws.amount-kept _ _ (c .amount-magnitude3 .ensures))
+    (laws.amount-kept _ _ (c .before .before .operand3 .ensures), laws.amount-kept _ _ (c .operand4 .ensures))
 
 amount-magnitude-returns : (t : ℕ) → amount-magnitude-lts.Need-returns (amount-magnitude-calls t) (amount-magnitude-at t) amount-magnitude.Post
 amount-magnitude-returns t c =
@@ -358,8 +357,8 @@ amount-magnitude-returns-7 t c =
     let k = c .before .before .before .before .before .before .before .before .amount-kind .ensures in
     let q = c .before .before .before .before .before .before .enum-told7 .given .1 in
     let t = c .before .before .before .before .before .test-small .ensures in
-    let x = c .before .before .before .amount-magnitude2 .ensures in
-    let y = c .before .amount-magnitude3 .ensures in
+    let x = c .before .before .before .operand3 .ensures in
+    let y = c .before .operand4 .ensures in
     laws.choose-magnitude b h k q t (c .before .before .before .before .link2 .ensures) (c .before .before .link3 .ensures) x y (c .greater-where .ensures)
 
 amount-magnitude-returns-8 : (t : ℕ) → amount-magnitude-lts.Need-returns-8 (amount-magnitude-calls t) (amount-magnitude-at t) amount-magnitude.Post
@@ -402,11 +401,11 @@ amount-magnitude-part t =
     (amount-magnitude-sub-test-small t)
     (amount-magnitude-test-small-requires t)
     (amount-magnitude-link-requires-2 t)
-    (amount-magnitude-sub-amount-magnitude-2 t)
-    (amount-magnitude-amount-magnitude-requires-2 t)
+    (amount-magnitude-sub-operand-3 t)
+    (amount-magnitude-operand-requires-3 t)
     (amount-magnitude-link-requires-3 t)
-    (amount-magnitude-sub-amount-magnitude-3 t)
-    (amount-magnitude-amount-magnitude-requires-3 t)
+    (amount-magnitude-sub-operand-4 t)
+    (amount-magnitude-operand-requires-4 t)
     (amount-magnitude-greater-where-requires t)
     (λ c. search needs)
     (amount-magnitude-returns t)
