@@ -22,7 +22,7 @@ use Rattle.fields.specs.declared.slots.Slots.the-variants.{Filled, Unfil
 use Rattle.fields.specs.declared.slots.Taking2.{Taking2}
 use Rattle.fields.specs.declared.slots.Taking2.the-variants.{Values, Wrongs}
 use Rattle.fields.proofs.ClassLaws.{Held, number-digit, plain-fails, plain-reads}
-use Rattle.fields.proofs.Positions.{first-field, from-behind, up-comma, up-fits, up-more}
+use Rattle.fields.proofs.Positions.{first-field, from-behind, up-comma, up-end, up-fits, up-more}
 
 -- ---- the field at a byte
 
@@ -59,11 +59,21 @@ pub digit-alone : (text : List ℕ) (at : ℕ) → at + 2 ≤ length text → 48
 digit-alone text at h l comma =
     up-more 44 text at (omega arith) (λ e. omega arith) (λ e. omega arith) ∙ ap (λ (l : List ℕ). getD text at 0 ∷ l) (up-comma 44 text (at + 1) (omega arith) comma)
 
-pub digit-tried : (text : List ℕ) (at class : ℕ) → at + 2 ≤ length text → 48 ≤ getD text at 0 → getD text at 0 ≤ 57 → getD text (at + 1) 0 ≡ 44
-    → (r : Taking) → DigitIs (rangeOf class) (getD text at 0 - 48) (at + 2) r → TriedIs (classOf class) text at r
-digit-tried text at class h l m comma (Value z next) d =
-    (digit-taken text at class (getD text at 0) (omega arith) l m (digit-alone text at h l comma) (Value z next) d, d .ends)
-digit-tried text at class h l m comma Wrong d = tt
+module _ (text : List ℕ) (at class : ℕ) (l : 48 ≤ getD text at 0) (m : getD text at 0 ≤ 57) where
+  digit-told : at < length text → upTo 44 (drop at text) ≡ getD text at 0 ∷ [] → (r : Taking) → DigitIs (rangeOf class) (getD text at 0 - 48) (at + 2) r
+      → TriedIs (classOf class) text at r
+  digit-told h e (Value z next) d = (digit-taken text at class (getD text at 0) h l m e (Value z next) d, d .ends)
+  digit-told h e Wrong d = tt
+
+  pub digit-tried : at + 2 ≤ length text → getD text (at + 1) 0 ≡ 44 → (r : Taking) → DigitIs (rangeOf class) (getD text at 0 - 48) (at + 2) r
+      → TriedIs (classOf class) text at r
+  digit-tried h comma r d = digit-told (omega (arith, h)) (digit-alone text at h l comma) r d
+
+  -- .. at the text's end
+  pub digit-last : at + 1 ≡ length text → (r : Taking) → DigitIs (rangeOf class) (getD text at 0 - 48) (at + 2) r → TriedIs (classOf class) text at r
+  digit-last h r d =
+      digit-told (omega (arith, h))
+      (up-more 44 text at (omega (arith, h)) (λ e. omega (arith, e, l)) (λ e. omega (arith, e, l)) ∙ ap (λ (f : List ℕ). getD text at 0 ∷ f) (up-end 44 text (at + 1) (omega (arith, h)))) r d
 
 -- ---- several fields
 

@@ -156,6 +156,18 @@ pub fn one_digit(text: &[u8], at: usize, class: u8) -> Taking
     Taking::Wrong
 }
 
+// A field of one digit at the text's end; any other is tried again.
+pub fn last_digit(text: &[u8], at: usize, class: u8) -> Taking
+    requires { ⌜ at + 1 ≡ length (now text) ⌝ }
+    ensures { λ r. ⌜ TriedIs (classOf class) (now (text .entry)) at r ⌝ }
+{
+    let c = text[at];
+    match c {
+        b'0'..=b'9' => digit_in(range_of(class), c - 48, at + 2),
+        _ => Taking::Wrong,
+    }
+}
+
 // Any field but a month. Most have one digit, so that is tried first.
 pub fn read_field(text: &[u8], at: usize, class: u8) -> Taking
     requires { ⌜ at ≤ length (now text) + 1 ⌝ }

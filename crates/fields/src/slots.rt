@@ -1,4 +1,5 @@
 // The fields of a node as up to four numbers: a month takes two of them.
+ghost use mathlib.Core.Path.{_≡_};
 ghost use mathlib.Core.List.{_∷_, []};
 ghost use Prim.Native.Nat.{_+_, _≤_};
 ghost use lib.ListN.{length};
@@ -14,6 +15,7 @@ use crate::field::PARTY;
 use crate::field::Range;
 use crate::field::Taking;
 use crate::field::in_range;
+use crate::field::last_digit;
 use crate::field::one_digit;
 use crate::field::read_field;
 use crate::numbers::Number;
@@ -244,6 +246,26 @@ pub fn two_digits(text: &[u8], at: usize, first: u8, second: u8) -> Slots
 {
     match one_digit(text, at, first) {
         Taking::Value { value: a, next } => match one_digit(text, at + 2, second) {
+            Taking::Value { value: b, next: n } => Slots::Filled {
+                a,
+                b,
+                c: 0,
+                d: 0,
+                next: n,
+            },
+            Taking::Wrong => Slots::Unfilled,
+        },
+        Taking::Wrong => Slots::Unfilled,
+    }
+}
+
+// Two parties at the text's end; any others are tried again.
+pub fn last_digits(text: &[u8], at: usize) -> Slots
+    requires { ⌜ at + 3 ≡ length (now text) ⌝ }
+    ensures { λ r. ⌜ SlotsTried (classOf 3 ∷ classOf 3 ∷ []) (now (text .entry)) at r ⌝ }
+{
+    match one_digit(text, at, PARTY) {
+        Taking::Value { value: a, next } => match last_digit(text, at + 2, PARTY) {
             Taking::Value { value: b, next: n } => Slots::Filled {
                 a,
                 b,

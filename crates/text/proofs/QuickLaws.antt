@@ -77,6 +77,39 @@ unfolding letterAmong rowOf planRow payoffRow amountRow testRow classesOfThree c
 wait-shape Plan = known planForm _ _ _ 87 (ofRoot PlanLetter.W) refl refl refl (record { is = refl; sort = refl; classes = refl; below = refl; small = (omega arith, omega arith, omega arith) })
 wait-shape Payoff = known payoffForm _ _ _ 87 (ofRoot PayoffLetter.W) refl refl refl (record { is = refl; sort = refl; classes = refl; below = refl; small = (omega arith, omega arith, omega arith) })
 
+-- ---- a letter without fields, in front of a comma or at the text's end
+
+some-bits : (k p : ℕ) → p % 4 ≡ k → 0 < k → p ≡ 0 → ⊥
+some-bits k p q l e = let z : 0 % 4 ≡ k = sym (ap (λ (n : ℕ). n % 4) e) ∙ q in omega (arith, z, l)
+
+module _ (text : List ℕ) (at k : ℕ) (h : at < length text) (letter : ℕ) (alone : upTo 44 (drop at text) ≡ letter ∷ []) where
+  bare-opens : (form : TextForm) (p : ℕ) → BareIs letter p → 0 < k → p % 4 ≡ k
+      → Opens (formOf form) (kindAt k) text at (record {
+        letter = letter;
+        a = pos 0;
+        b = pos 0;
+        c = pos 0;
+        d = pos 0;
+        next = at + 2;
+        kid1 = p / 4 % 4;
+        kid2 = p / 16 % 4;
+        kid3 = p / 64;
+      })
+  bare-opens form p b l q = record {
+    is = λ left count room level. open-done (formOf form) left k text at count (omega (arith, h)) letter (bareShape p) alone (b .is (some-bits k p q l) form)
+        (λ e. omega (arith, l, sym q ∙ e)) q room level (pos 0) (pos 0) (pos 0) (pos 0) (pos 0) (pos 0) (pos 0) (pos 0) (at + 2) (four-none text (at + 2) 0 0 0 refl (omega (arith, h))) refl refl refl refl;
+  }
+
+  pub bare-row : (form : TextForm) (p : ℕ) → BareIs letter p → 0 < k → p % 4 ≡ k → (old new : List ℤ) (count : ℕ)
+      → new ≡ sets old (5 * count) (pos letter ∷ pos 0 ∷ pos 0 ∷ pos 0 ∷ pos 0 ∷ []) → QuickIs (formOf form) (kindAt k) text at old new count (Opened (at + 2) (p / 4))
+  bare-row form p b l q old new count e = record {
+    head = _;
+    opens = bare-opens form p b l q;
+    behind = refl;
+    children = omega arith;
+    row = e ∙ ap (sets old (5 * count)) (with-zeros letter (p / 4 % 4));
+  }
+
 -- ---- where a letter stands
 
 module _ (text : List ℕ) (at k : ℕ) (h : at + 2 ≤ length text) (comma : getD text (at + 1) 0 ≡ 44) where
@@ -103,34 +136,7 @@ module _ (text : List ℕ) (at k : ℕ) (h : at + 2 ≤ length text) (comma : ge
     filled-opens b letter other s sh some-kind same kids sum zero Unfilled f r fill = subst (QuickIs form (kindAt k) text at old new count) (sym (fill .0)) (fill .1)
 
   -- a letter without fields
-  bare-opens : (form : TextForm) (p : ℕ) → BareIs (getD text at 0) p → 0 < k → p % 4 ≡ k
-      → Opens (formOf form) (kindAt k) text at (record {
-        letter = getD text at 0;
-        a = pos 0;
-        b = pos 0;
-        c = pos 0;
-        d = pos 0;
-        next = at + 2;
-        kid1 = p / 4 % 4;
-        kid2 = p / 16 % 4;
-        kid3 = p / 64;
-      })
-  bare-opens form p b l q =
-      let n : p ≡ 0 → ⊥ = λ e. some-bits p e q l in
-      record {
-        is = λ left count room level. open-done (formOf form) left k text at count (omega arith) (getD text at 0) (bareShape p) (sole (getD text at 0) refl (b .other n)) (b .is n form)
-            (λ e. omega (arith, sym q ∙ e)) q room level (pos 0) (pos 0) (pos 0) (pos 0) (pos 0) (pos 0) (pos 0) (pos 0) (at + 2) (four-none text (at + 2) 0 0 0 refl (omega arith)) refl refl refl refl;
-      }
-    where
-      some-bits : (p : ℕ) → p ≡ 0 → p % 4 ≡ k → 0 < k → ⊥
-      some-bits p e q l = let z : 0 % 4 ≡ k = sym (ap (λ (n : ℕ). n % 4) e) ∙ q in omega (arith, z)
-
   pub bare-quick : (form : TextForm) (p : ℕ) → BareIs (getD text at 0) p → 0 < k → p % 4 ≡ k → (old new : List ℤ) (count : ℕ)
       → new ≡ sets old (5 * count) (pos (getD text at 0) ∷ pos 0 ∷ pos 0 ∷ pos 0 ∷ pos 0 ∷ []) → QuickIs (formOf form) (kindAt k) text at old new count (Opened (at + 2) (p / 4))
-  bare-quick form p b l q old new count e = record {
-    head = _;
-    opens = bare-opens form p b l q;
-    behind = refl;
-    children = omega arith;
-    row = e ∙ ap (sets old (5 * count)) (with-zeros (getD text at 0) (p / 4 % 4));
-  }
+  bare-quick form p b l q old new count e =
+      bare-row text at k (omega (arith, h)) (getD text at 0) (sole (getD text at 0) refl (b .other (some-bits k p q l))) form p b l q old new count e

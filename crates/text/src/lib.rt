@@ -8,6 +8,7 @@ ghost use Rattle.text.specs.ReadInto.{CountIs, ReadInto};
 ghost use Rattle.text.specs.Refusals.{numberOf};
 ghost use Rattle.text.specs.Room.{Roomy};
 
+mod edges;
 mod letters;
 pub mod opens;
 mod quick;

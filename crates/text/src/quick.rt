@@ -40,7 +40,7 @@ pub fn stands_at(text: &[u8], at: usize) -> bool
 }
 
 // The node of these fields, as row `count`.
-fn fill_row(
+pub fn fill_row(
     slots: Slots,
     text: &[u8],
     at: usize,

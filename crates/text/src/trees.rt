@@ -46,7 +46,7 @@ pub enum Opened {
     Closed(Refusal),
 }
 
-fn letter_at(text: &[u8], at: usize) -> Sole
+pub fn letter_at(text: &[u8], at: usize) -> Sole
     requires { ⌜ at ≤ length (now text) ⌝ }
     ensures { λ r. ⌜ SoleIs (upTo 44 (drop at (now (text .entry)))) r ⌝ }
 {
@@ -155,7 +155,7 @@ fn number_for(h: Head) -> usize
 }
 
 // Any node's letter and fields by the letter table, as row `count`; a refusal is its own number.
-pub fn open_general(
+pub fn open_by_table(
     form: TextForm,
     text: &[u8],
     at: usize,

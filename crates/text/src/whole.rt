@@ -9,13 +9,13 @@ ghost use Rattle.text.specs.Room.{Roomy};
 ghost use Rattle.text.specs.Rows.{RowIs};
 ghost use Rattle.text.specs.Whole.{ReadIs};
 use crate::Refusal;
+use crate::edges::open_general;
 use crate::letters::ROOT;
 use crate::letters::TextForm;
 use crate::quick::Quick;
 use crate::quick::quick_row;
 use crate::quick::stands_at;
 use crate::trees::MAX_NODES;
-use crate::trees::open_general;
 use fields::field::NONE;
 
 const MAX_DEPTH: usize = 32;

@@ -33,7 +33,7 @@ returns : tie.Need-returns
 returns c =
     let a = c .before .before .before .before .before .before .before .before .args in
     let t = a .text .now in
-    digit-tried t (a .at) (a .class) (c .before .before .before .before .before .before .before .before .pre) (omega arith) (omega arith) (c .before .before .if3 .taken) (c .digit-in .result)
+    digit-tried t (a .at) (a .class) (omega arith) (omega arith) (c .before .before .before .before .before .before .before .before .pre) (c .before .before .if3 .taken) (c .digit-in .result)
     (subst (λ (r : Range). DigitIs r (getD t (a .at) 0 - 48) (a .at + 2) (c .digit-in .result)) (c .before .range-of .ensures) (c .digit-in .ensures))
 
 returns-2 : tie.Need-returns-2

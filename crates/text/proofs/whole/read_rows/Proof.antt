@@ -11,7 +11,7 @@ use Rattle.text.proofs.whole.read_rows.Statement.{statement}
 use Rattle.text.proofs.whole.read_rows.Tie as tie
 use Rattle.text.proofs.whole.read_rows.Reads as reads
 use Rattle.text.proofs.whole.read_rows.Lts as lts
-use Rattle.text.proofs.trees.open_general.Reads as open-general-reads
+use Rattle.text.proofs.edges.open_general.Reads as open-general-reads
 use Rattle.text.proofs.whole.open_row.Reads as open-row-reads
 use Rattle.text.proofs.whole.put_link.Reads as put-link-reads
 use Rattle.text.proofs.whole.row_of.Reads as row-of-reads

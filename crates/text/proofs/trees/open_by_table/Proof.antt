@@ -6,8 +6,8 @@ use Rattle.text.specs.Packed.{rowOf}
 use Rattle.text.specs.Rows.{RowIs}
 use Rattle.text.specs.Trees.{OpenedIs}
 use Rattle.text.proofs.PackedLaws.{shut-number}
-use Rattle.text.proofs.trees.open_general.Statement.{statement}
-use Rattle.text.proofs.trees.open_general.Tie as tie
+use Rattle.text.proofs.trees.open_by_table.Statement.{statement}
+use Rattle.text.proofs.trees.open_by_table.Tie as tie
 
 open-any-requires : tie.Need-open-any-requires
 open-any-requires c κs = search needs
@@ -54,8 +54,8 @@ returns-2 c =
     subst (RowIs (formOf (a .form)) (a .left) (kindAt (a .kind)) (a .text .now) (a .at) (a .nodes .now) (a .nodes .now) (a .count)) (sym (ap rowOf (c .number-of .ensures) ∙ shut-number k))
     (subst (OpenedIs _ _ _ _ _ _) (c .before .before .refusal .given .1) (c .before .before .before .before .open-any .ensures))
 
-pub open-general-spec : {M : Type 1} → statement M
-open-general-spec =
+pub open-by-table-spec : {M : Type 1} → statement M
+open-by-table-spec =
     tie.close
     (tie.spec
     open-any-requires
