@@ -9,7 +9,7 @@ ghost use Rattle.fields.specs.Classes.{classOf, rangeOf, Limited, Ranged
 ghost use Rattle.fields.specs.Fields.{DigitIs, TakenIs, TriedIs};
 ghost use Rattle.fields.specs.Numbers.{NumberIs};
 use crate::numbers::Number;
-use crate::numbers::read_number;
+use crate::numbers::plain_number;
 use crate::settings::read_setting;
 
 // The classes of fields. A letter with fewer than three fields has NONE for the others.
@@ -86,7 +86,7 @@ fn read_plain(text: &[u8], at: usize, class: u8) -> Taking
     ensures { λ r. ⌜ TakenIs (classOf class) (now (text .entry)) at r ⌝ }
 {
     let range = range_of(class);
-    match in_range(read_number(text, at, b','), range) {
+    match in_range(plain_number(text, at), range) {
         Number::Is { value, end } => Taking::Value {
             value,
             next: end + 1,

@@ -215,3 +215,19 @@ pub fn short_number(text: &[u8], at: usize) -> Number
         _ => Number::Bad,
     }
 }
+
+// A number in front of a comma or at the text's end: most have up to three digits.
+pub fn plain_number(text: &[u8], at: usize) -> Number
+    requires { ⌜ at ≤ length (now text) ⌝ }
+    ensures { λ r. ⌜ NumberIs (upTo 44 (drop at (now (text .entry)))) at r ⌝ }
+{
+    if 4 <= text.len() - at {
+        match short_number(text, at) {
+            Number::Is { value, end } => {
+                return Number::Is { value, end };
+            }
+            Number::Bad => {}
+        }
+    }
+    read_number(text, at, b',')
+}

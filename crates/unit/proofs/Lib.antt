@@ -1,4 +1,3 @@
 -- Laws of the C interface.
 mod Buffers
 mod Puts
-mod Sizes

@@ -1,10 +1,12 @@
 -- Numbers put into `answer`, place by place, and an answer's numbers.
 use Prim.Native.Nat.{_<_, _≤_, _^_, ℕ}
 use borrow.Author.Tests.{le-leb, lt-leb}
-use lib.IntN.{pos, ℤ}
+use lib.Dec.{T}
+use lib.IntN.{natAbs, negsuc, pos, ℤ}
 use lib.ListN.{length, set}
+use lib.Signed.{nonNeg}
 use mathlib.Core.List.{List, _∷_, []}
-use mathlib.Core.Path.{_∙_, _≡_, ap, sym}
+use mathlib.Core.Path.{_∙_, _≡_, ap, refl, sym}
 use mir.Facts.{toZ-ofZ}
 use mir.Syntax.{w32, w64}
 use mir.Val.{SFits, ofZ, toZ}
@@ -26,6 +28,11 @@ unfolding put
 two-put x y [] h = absurd (omega (arith, h))
 two-put x y (a ∷ []) h = absurd (omega (arith, h))
 two-put x y (a ∷ b ∷ answer) h = rw (le-leb 2 (length (a ∷ b ∷ answer)) h)
+
+-- a number that is not below zero
+pub whole : (z : ℤ) → T (nonNeg z) → z ≡ pos (natAbs z)
+whole (pos n) h = refl
+whole (negsuc n) h = absurd h
 
 -- a count below 2^63 is read back as itself
 pub count-fits : (n : ℕ) → n < 2 ^ 63 → SFits w64 (pos n)

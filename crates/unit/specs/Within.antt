@@ -1,13 +1,8 @@
 -- The natural numbers of an answer fit i64.
-use Prim.Native.Nat.{_<_, _≤_, _^_}
+use Prim.Native.Nat.{_<_, _^_}
 use mathlib.Core.Path.{_≡_}
 use Rattle.language.specs.Answer.{Answer, got}
-use Rattle.language.specs.Calls.{Checked, Wrote}
-use Rattle.language.specs.Limits.{maxAmount}
-
--- length and magnitude of an accepted plan are at most the greatest amount
-pub record Limited (a : Answer Checked) : Type 0 where
-  pub within : (x : Checked) → a ≡ got x → (x .length ≤ maxAmount) × (x .magnitude ≤ maxAmount)
+use Rattle.language.specs.Calls.{Wrote}
 
 -- a count of bytes is at most what one buffer holds
 pub record Counted {A : Type 0} (a : Answer (Wrote A)) : Type 0 where

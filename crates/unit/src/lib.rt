@@ -1,21 +1,19 @@
 // The engine's calls for programs in C. A slice passes as a pointer and a length. Returned is 0 or the refusal's number;
 // `answer` gets the call's numbers, and is too short for them (13) only where nothing else is refused.
 ghost use mathlib.Core.Path.{_≡_};
-ghost use Prim.Native.Nat.{_≤_};
-ghost use lib.IntN.{natAbs, pos};
+ghost use lib.IntN.{pos};
 ghost use lib.Dec.{leb};
 ghost use mathlib.Core.Bool.{cond};
 ghost use mathlib.Core.List.{_∷_, []};
 ghost use Rattle.language.specs.Calls.{checkCall, compileCall, cutCall, evaluateCall, paymentCall, stepCall};
-ghost use Rattle.language.specs.Limits.{maxAmount};
 ghost use Rattle.language.specs.Sheet.{sheetCall};
 ghost use Rattle.payments.specs.Answers.{payingAnswer, steppingAnswer};
 ghost use Rattle.payoff.specs.Answers.{writingAnswer};
 ghost use Rattle.payoff.specs.Evaluating.{evaluatingAnswer};
-ghost use Rattle.rules.specs.Answers.{checkingAnswer, givenOf};
+ghost use Rattle.rules.specs.Answers.{Natural, checkingAnswer, givenOf};
 ghost use Rattle.text.specs.Refusals.{numberOf};
 ghost use Rattle.unit.specs.Returned.{bytesOnly, intoAnswer, intoBoth, measures, money, moneyBytes, put};
-ghost use Rattle.unit.specs.Within.{Counted, Limited};
+ghost use Rattle.unit.specs.Within.{Counted};
 ghost use Rattle.writer.specs.Answers.{writtenAnswer};
 use payments::Paying;
 use payments::Stepping;
@@ -59,26 +57,14 @@ fn refused(refusal: Refusal) -> i32
     text::number_of(refusal) as i32
 }
 
-// A length or a magnitude: neither is below zero.
-fn size(x: i64) -> i64
-    requires { ⌜ natAbs x ≤ maxAmount ⌝ }
-    ensures { λ r. ⌜ r ≡ pos (natAbs x) ⌝ }
-{
-    integers::magnitude(x) as i64
-}
-
 // ---- what the engine's calls answered, into `answer`
 
 fn tell_check(checking: Checking, answer: &mut [i64]) -> i32
-    requires { ⌜ Limited (checkingAnswer checking) ⌝ }
+    requires { ⌜ Natural checking ⌝ }
     ensures { λ r. ⌜ (r, now (answer .exit)) ≡ intoAnswer measures (now (answer .entry)) (checkingAnswer checking) ⌝ }
 {
     match checking {
-        Checking::Accepted(length, magnitude) => {
-            let months = size(length.0);
-            let pence = size(magnitude.0);
-            put_two(answer, months, pence)
-        }
+        Checking::Accepted(length, magnitude) => { put_two(answer, length.0, magnitude.0) }
         Checking::Refused(refusal) => refused(refusal),
     }
 }

@@ -4,8 +4,6 @@ use mir.Syntax.{w32}
 use mir.Val.{SFits}
 use Rattle.unit.proofs.Puts.{passed-on}
 use Rattle.unit.specs.Returned.{measures}
-use Rattle.rules.specs.Answers.{givenOf}
-use Rattle.unit.proofs.Sizes.{limited}
 use Rattle.unit.proofs.codhungu_check.Statement.{statement}
 use Rattle.unit.proofs.codhungu_check.Tie as tie
 
@@ -13,10 +11,7 @@ check-requires : tie.Need-check-requires
 check-requires c κs = search needs
 
 tell-check-requires : tie.Need-tell-check-requires
-tell-check-requires c κs =
-    let s = c .before .before .before in
-    let a = s .args in
-    limited (a .plan .now) (givenOf (a .days .now) (a .h) (a .f) (a .factors .now) (a .bounds .now) (a .values .now)) (a .today) (rw (toZ-ofZ (s .fits .h), toZ-ofZ (s .fits .f), toZ-ofZ (s .fits .today)) at (c .before .check .ensures .0))
+tell-check-requires c κs = c .before .check .ensures .1
 
 same-length : tie.Need-same-length
 same-length c = search needs

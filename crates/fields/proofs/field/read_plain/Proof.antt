@@ -19,8 +19,8 @@ use Rattle.fields.proofs.field.read_plain.Tie as tie
 range-of-requires : tie.Need-range-of-requires
 range-of-requires c κs = search needs
 
-read-number-requires : tie.Need-read-number-requires
-read-number-requires c κs = search needs
+plain-number-requires : tie.Need-plain-number-requires
+plain-number-requires c κs = search needs
 
 in-range-requires : tie.Need-in-range-requires
 in-range-requires c κs = subst Limited (sym (c .before .range-of .ensures)) (limited (c .before .before .before .args .class))
@@ -34,7 +34,7 @@ add-t10 c =
     let f : List ℕ = upTo 44 (drop (a .at) (a .text .now)) in
     let r = c .before .before .before in
     let w = subst (RangedIs (rangeOf (a .class)) f (a .at)) (c .before .value .given .1) (subst (λ (x : Range). RangedIs x f (a .at) (r .in-range .result)) (r .before .before .range-of .ensures)
-    (r .in-range .ensures f (a .at) (r .before .read-number .ensures))) in
+    (r .in-range .ensures f (a .at) (r .before .plain-number .ensures))) in
     let v = c .before .value .given .0 .0 in
     let h = plain-reads f (a .class) v (c .before .before .before .before .before .before .before .pre .1) (w .is) in
     let k = up-fits 44 (a .text .now) (a .at) (c .before .before .before .before .before .before .before .pre .0) in
@@ -49,7 +49,7 @@ returns c =
     let f : List ℕ = upTo 44 (drop (a .at) (a .text .now)) in
     let r = c .before .before .before in
     let w = subst (RangedIs (rangeOf (a .class)) f (a .at)) (c .before .value .given .1) (subst (λ (x : Range). RangedIs x f (a .at) (r .in-range .result)) (r .before .before .range-of .ensures)
-    (r .in-range .ensures f (a .at) (r .before .read-number .ensures))) in
+    (r .in-range .ensures f (a .at) (r .before .plain-number .ensures))) in
     let v = c .before .value .given .0 .0 in
     let h = plain-reads f (a .class) v (c .before .before .before .before .before .before .before .pre .1) (w .is) in
     let k = up-fits 44 (a .text .now) (a .at) (c .before .before .before .before .before .before .before .pre .0) in
@@ -62,7 +62,7 @@ returns-2 c =
     let f : List ℕ = upTo 44 (drop (a .at) (a .text .now)) in
     let r = c .before .before in
     let w = subst (RangedIs (rangeOf (a .class)) f (a .at)) (c .enum-told .given .1) (subst (λ (x : Range). RangedIs x f (a .at) (r .in-range .result)) (r .before .before .range-of .ensures)
-    (r .in-range .ensures f (a .at) (r .before .read-number .ensures))) in
+    (r .in-range .ensures f (a .at) (r .before .plain-number .ensures))) in
     failed-at (classOf (a .class)) (a .text .now) (a .at) (c .before .before .before .before .before .before .pre .0) (plain-fails f (a .class) (c .before .before .before .before .before .before .pre .1) w)
 
 pub read-plain-spec : {M : Type 1} → statement M
@@ -70,7 +70,7 @@ read-plain-spec =
     tie.close
     (tie.spec
     range-of-requires
-    read-number-requires
+    plain-number-requires
     in-range-requires
     enum-known-value
     add-t10
