@@ -295,6 +295,29 @@ pub fn deepest() -> Vec<Load> {
     loads
 }
 
+/// Plans 32 deep that break a rule in their innermost plan: all of them is measured, and then refused with 6.
+pub fn refused() -> Vec<Load> {
+    let great = "S,N,9000000000000,S,N,9000000000000,T,1,2";
+    let opens = [
+        ("L", "L,0,"),
+        ("B", "B,T,1,2,"),
+        ("S", "S,N,1,"),
+        ("W", "W,0,E,N,1,N,2,Z,"),
+    ];
+    opens
+        .iter()
+        .map(|(letter, open)| {
+            let plan = open.repeat(29) + great;
+            Load::plan(
+                &format!("32 deep, {letter}, refused"),
+                plan,
+                &[],
+                table(0, 600, 8, 200),
+            )
+        })
+        .collect()
+}
+
 #[cfg(test)]
 mod tests {
     use super::*;

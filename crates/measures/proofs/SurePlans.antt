@@ -2,9 +2,8 @@
 use Prim.Native.Nat.{_%_, _*_, _+_, _-_, _/_, _≤_, max, min, ℕ}
 use Rattle.integers.proofs.Locals.{rd}
 use Rattle.integers.proofs.Solver.{N, P, _⊕_, _⊖_, dn, lit, ring, sound, up, var}
-use Rattle.language.proofs.Truth.{and-e}
 use Rattle.language.specs.Limits.{maxAmount, maxMonths}
-use Rattle.language.specs.Rules.Measures.{First, Latest, firstOf, from, latestOf, latestOfTest, lengthOf, magnitudeOf, never}
+use Rattle.language.specs.Rules.Measures.{Latest, firstOf, from, latestOf, latestOfTest, lengthOf, never}
 use Rattle.language.specs.Rules.Table.{Table}
 use Rattle.language.specs.Rules.Tests.{amountReads, notAfter, planSmall, testReads, testSmall}
 use Rattle.language.specs.Text.Trees.{Amount, Plan, Test, both, later, nothing, scale, transfer, within}
@@ -16,15 +15,15 @@ use Rattle.measures.proofs.PlanMeasures as whole
 use Rattle.measures.specs.Magnitudes.{beyond, joined, measured, measuredAmount}
 use Rattle.measures.specs.PlanMeasures.{Addable, MeasuresOf}
 use Rattle.measures.specs.Sure.{Sure, SureOf}
-use Rattle.measures.specs.Timing.{FewMonths, firstMonth, latestMonth, neverMonth}
+use Rattle.measures.specs.Timing.{firstMonth, latestMonth, neverMonth}
 use Rattle.measures.specs.declared.plan.Measures.{Measures}
 use Rattle.nodes.specs.Table.{natOf}
 use borrow.Author.Tests.{le-leb, leb-true}
 use lib.Dec.{leb}
 use lib.IntN.{_+ℤ_, _-ℤ_, natAbs, negsuc, pos, ℤ}
 use lib.Signed.{ltZ}
-use mathlib.Core.Bool.{Bool, _&&_, cond, false, true}
-use mathlib.Core.Path.{_∙_, _≡_, ap, ap₂, refl, subst, sym}
+use mathlib.Core.Bool.{Bool, _&&_, false, true}
+use mathlib.Core.Path.{_∙_, _≡_, ap, refl, subst, sym}
 use mir.Syntax.{w64}
 use mir.Val.{SFits}
 use native.Mathlib.Omega.{arith}
@@ -62,11 +61,11 @@ known-by h y (from m) few ek en = sym (le-leb (latestMonth y) m (omega (arith, h
 
 -- ---- measures and sureness
 
-abbrev found : (ℕ → ℕ) → Plan ℕ → ℕ → Measures
-found bound x r = record { length = lengthOf x; first = firstMonth (firstOf x); magnitude = r / 1024; known = true; reads = true }
+abbrev found : Plan ℕ → ℕ → Measures
+found x r = record { length = lengthOf x; first = firstMonth (firstOf x); magnitude = r / 1024; known = true; reads = true }
 
 module _ {t : Table} {a z : ℕ} {bound : ℕ → ℕ} where
-  to-measures : {need : ℕ} {high : ℤ} {x : Plan ℕ} {r : ℕ} → Sure t a z bound need high x r → MeasuresOf t a z bound x (found bound x r)
+  to-measures : {need : ℕ} {high : ℤ} {x : Plan ℕ} {r : ℕ} → Sure t a z bound need high x r → MeasuresOf t a z bound x (found x r)
   to-measures s = record {
     length = refl;
     first = refl;
@@ -88,7 +87,7 @@ module _ {t : Table} {a z : ℕ} {bound : ℕ → ℕ} where
         length = el ∙ ap (λ n. pos (n + r % 1024)) (h .length);
       }
 
-  short : {need : ℕ} {high : ℤ} {x : Plan ℕ} {r : ℕ} → natOf high ≤ maxMonths → r / 1024 ≤ maxAmount → Sure t a z bound need high x r → Addable (found bound x r)
+  short : {need : ℕ} {high : ℤ} {x : Plan ℕ} {r : ℕ} → natOf high ≤ maxMonths → r / 1024 ≤ maxAmount → Sure t a z bound need high x r → Addable (found x r)
   short {x = x} {r = r} b i s = record { length = omega (arith, (rw (s .length) at b)); magnitude = omega (arith, i) }
 
 -- ---- the months left behind a plan's end

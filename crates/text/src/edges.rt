@@ -1,8 +1,7 @@
 // A text's first node and its last, which have no quick way of their own: a letter without fields, and a transfer at a plan's end, are opened
 // without the letter table.
-ghost use mathlib.Core.Path.{_≡_};
 ghost use Prim.Native.Nat.{_+_, _*_, _<_, _≤_};
-ghost use lib.ListN.{length, getD};
+ghost use lib.ListN.{length};
 ghost use Rattle.language.specs.Text.Letters.{planForm};
 ghost use Rattle.text.specs.Letters.{formOf, kindAt};
 ghost use Rattle.text.specs.Packed.{rowOf};

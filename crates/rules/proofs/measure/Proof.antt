@@ -1,8 +1,7 @@
-use Prim.Native.Nat.{_%_, _≤_}
-use Rattle.language.specs.Limits.{maxAmount}
+use Prim.Native.Nat.{_%_}
 use Rattle.nodes.specs.Found.{planAt}
 use Rattle.nodes.specs.Table.{natOf}
-use Rattle.rules.proofs.Measuring.{all-kept, end-small, few-months, few-today, high-today, near-today, plain-fits, plain-read, seen-today, start-fits, start-small}
+use Rattle.rules.proofs.Measuring.{all-kept, end-small, few-months, few-today, high-today, near-today, plain-read, seen-today, start-fits, start-small}
 use Rattle.rules.proofs.measure.Statement.{statement}
 use Rattle.rules.proofs.measure.Tie as tie
 use borrow.Author.Needs.{needs}

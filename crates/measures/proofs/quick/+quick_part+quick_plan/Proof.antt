@@ -6,8 +6,7 @@ use Rattle.measures.proofs.PlanRows as rows
 use Rattle.measures.proofs.Plans as plans
 use Rattle.measures.proofs.SurePlans as sure
 use borrow.Author.Needs.{needs}
-use lib.IntN.{pos}
-use mathlib.Core.Path.{_∙_, ap, refl, sym}
+use mathlib.Core.Path.{_∙_, ap, refl}
 use mir.Syntax.{w64}
 use mir.Val.{SFits}
 use native.Mathlib.Omega.{arith}
