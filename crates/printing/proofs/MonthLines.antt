@@ -2,12 +2,12 @@
 use Prim.Native.Nat.{_*_, _+_, _-_, _<_, _≤_, suc, zero, ℕ}
 use lib.IntN.{ℤ}
 use lib.ListN.{length, length-append}
-use mathlib.Core.List.{List, [], _++_, _∷_, append-assoc, append-nil}
+use mathlib.Core.List.{List, [], _++_, append-assoc, append-nil}
 use mathlib.Core.Path.{_∙_, _≡_, ap, refl, sym}
 use native.Mathlib.Omega.{arith}
 use Rattle.language.specs.Text.Fields.{bytes}
 use Rattle.language.specs.Text.Number.{printNat, printNumber}
-use Rattle.printing.specs.Lines.{headText, monthText, monthsText, newLine, refusalText}
+use Rattle.printing.specs.Lines.{headText, monthText, monthsText, newLine, numbersText, refusalText}
 use Rattle.writer.proofs.Decimal.{digits-most}
 use Rattle.writer.proofs.FieldTexts.{number-small}
 use Rattle.writer.proofs.Puts.{none, room-as, room-first, room-next, said, then}
@@ -21,11 +21,11 @@ module _ (column rest : List ℤ) (m : ℕ) where
   behind-month = numberField (slot column m) ++ (numberField (slot rest m) ++ newLine)
 
   pub month-parts : monthText column rest m ≡ printNat m ++ behind-month
-  unfolding monthText
+  unfolding monthText numbersText
   month-parts = refl
 
   pub month-counted : {a b c : ℕ} → a ≡ length (printNat m) → b ≡ length (printNumber (slot column m)) → c ≡ length (printNumber (slot rest m)) → (a + b + c + 3 ≡ length (monthText column rest m)) × (a + b + c + 3 ≤ 70)
-  unfolding monthText
+  unfolding monthText numbersText
   month-counted {a} {b} {c} ea eb ec = (
     omega (arith, ea, eb, ec, length-append (printNat m) behind-month, length-append (numberField (slot column m)) (numberField (slot rest m) ++ newLine), length-append (numberField (slot rest m)) newLine),
     omega (arith, ea, digits-most m, number-small (slot column m) b eb, number-small (slot rest m) c ec),

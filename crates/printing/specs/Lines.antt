@@ -1,7 +1,6 @@
 -- The lines of a sheet's answer, from lists of numbers.
 use Prim.Native.Nat.{_+_, suc, zero, ℕ}
-use lib.IntN.{pos, ℤ}
-use lib.ListN.{getD}
+use lib.IntN.{ℤ}
 use mathlib.Core.List.{List, [], _++_, _∷_}
 use Rattle.language.specs.Answer.{got}
 use Rattle.language.specs.Calls.{Outcome, Wrote, intoBuffer}
@@ -14,9 +13,13 @@ use Rattle.writer.specs.Written.{slot}
 abbrev pub newLine : List ℕ
 newLine = 10 ∷ []
 
+-- pence and value, and the line's end
+unfoldable pub numbersText : List ℤ → List ℤ → ℕ → List ℕ
+numbersText column rest m = numberField (slot column m) ++ (numberField (slot rest m) ++ newLine)
+
 -- month, pence and value
 unfoldable pub monthText : List ℤ → List ℤ → ℕ → List ℕ
-monthText column rest m = printNat m ++ (numberField (slot column m) ++ (numberField (slot rest m) ++ newLine))
+monthText column rest m = printNat m ++ numbersText column rest m
 
 -- n months from m on
 unfoldable pub monthsText : List ℤ → List ℤ → ℕ → ℕ → List ℕ

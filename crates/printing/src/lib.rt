@@ -1,11 +1,14 @@
 // The answer of a sheet as text: counted first, then written.
 ghost use mathlib.Core.Path.{_≡_};
-ghost use Prim.Native.Nat.{_*_, _+_, _<_, _≤_};
-ghost use lib.ListN.{length};
-ghost use Rattle.printing.specs.Lines.{answerCall, answerText, headText, monthText, monthsText, refusalCall, refusalText};
+ghost use Prim.Native.Nat.{_*_, _+_, _-_, _<_, _≤_};
+ghost use lib.ListN.{drop, length, take};
+ghost use Rattle.printing.specs.Lines.{answerCall, answerText, headText, monthText, monthsText, numbersText, refusalCall, refusalText};
 ghost use Rattle.writer.specs.Answers.{writtenAnswer};
 ghost use Rattle.writer.specs.Digits.{allPairs};
 ghost use Rattle.writer.specs.Put.{Put};
+
+mod again;
+
 use writer::Written;
 use writer::digits;
 use writer::fields;
@@ -35,7 +38,31 @@ fn month_length(column: &[i64], rest: &[i64], m: usize) -> usize
     a + b + c + 3
 }
 
-// Writes the line of month m, which is known as hundreds and what is over.
+// Where a line's numbers start, behind its month, and where the next line starts.
+pub struct Line {
+    pub mark: usize,
+    pub next: usize,
+}
+
+// Writes the numbers of month m and the line's end.
+fn put_numbers(
+    pairs: &[u8; 200],
+    column: &[i64],
+    rest: &[i64],
+    m: usize,
+    out: &mut [u8],
+    at: usize,
+) -> usize
+    requires { ⌜ (m < length (now column)) × (m < length (now rest)) × (at + length (numbersText (now column) (now rest) m) ≤ length (now out)) × (now pairs ≡ allPairs) ⌝ }
+    ensures { λ r. ⌜ Put (now (out .entry)) (now (out .exit)) at r (numbersText (now (column .entry)) (now (rest .entry)) m) ⌝ }
+{
+    let b = fields::put_field_by(pairs, column, m, out, at);
+    let c = fields::put_field_by(pairs, rest, m, out, b);
+    out[c] = b'\n';
+    c + 1
+}
+
+// Writes the line of month m, which is known as hundreds and what is over; the numbers of the line before stand from `mark` on up to `at`.
 fn put_month(
     pairs: &[u8; 200],
     column: &[i64],
@@ -45,15 +72,20 @@ fn put_month(
     over: u32,
     out: &mut [u8],
     at: usize,
-) -> usize
-    requires { ⌜ (m < length (now column)) × (m < length (now rest)) × (m ≤ 600) × (at + length (monthText (now column) (now rest) m) ≤ length (now out)) × (now pairs ≡ allPairs) × (over < 100) × (m ≡ 100 * hundreds + over) ⌝ }
-    ensures { λ r. ⌜ Put (now (out .entry)) (now (out .exit)) at r (monthText (now (column .entry)) (now (rest .entry)) m) ⌝ }
+    mark: usize,
+) -> Line
+    requires { ⌜ (m < length (now column)) × (m < length (now rest)) × (m ≤ 600) × (at + length (monthText (now column) (now rest) m) ≤ length (now out)) × (now pairs ≡ allPairs) × (over < 100) × (m ≡ 100 * hundreds + over)
+        × (mark ≤ at) × (0 < m → take (at - mark) (drop mark (now out)) ≡ numbersText (now column) (now rest) (m - 1)) ⌝ }
+    ensures { λ r. ⌜ Put (now (out .entry)) (now (out .exit)) at (r .next) (monthText (now (column .entry)) (now (rest .entry)) m)
+        × (r .mark ≤ r .next) × (take (r .next - r .mark) (drop (r .mark) (now (out .exit))) ≡ numbersText (now (column .entry)) (now (rest .entry)) m) ⌝ }
 {
     let a = digits::put_hundreds(pairs, hundreds, over, out, at);
-    let b = fields::put_field_by(pairs, column, m, out, a);
-    let c = fields::put_field_by(pairs, rest, m, out, b);
-    out[c] = b'\n';
-    c + 1
+    if again::is_again(column, rest, m, at - mark) {
+        let b = again::put_again(out, mark, a, at - mark);
+        return Line { mark: a, next: b };
+    }
+    let c = put_numbers(pairs, column, rest, m, out, a);
+    Line { mark: a, next: c }
 }
 
 // The bytes of the lines of the first months.
@@ -83,11 +115,14 @@ fn put_months(
     ensures { λ r. ⌜ Put (now (out .entry)) (now (out .exit)) at r (monthsText (now (column .entry)) (now (rest .entry)) 0 months) ⌝ }
 {
     let mut place = at;
+    let mut mark = at;
     let mut m = 0;
     let mut hundreds = 0u32;
     let mut over = 0u32;
     while m < months {
-        place = put_month(pairs, column, rest, m, hundreds, over, out, place);
+        let line = put_month(pairs, column, rest, m, hundreds, over, out, place, mark);
+        place = line.next;
+        mark = line.mark;
         m += 1;
         over += 1;
         if over == 100 {
