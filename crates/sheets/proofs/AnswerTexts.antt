@@ -13,7 +13,7 @@ use Rattle.language.specs.Sheet.{Sheet, line, monthLine, monthLines, printed}
 use Rattle.language.specs.Text.Fields.{behind, bytes, join, joinWith}
 use Rattle.language.specs.Text.Number.{printNat, printNumber}
 use Rattle.language.specs.Text.Trees.{Delay, Plan, start}
-use Rattle.printing.specs.Lines.{headText, monthText, monthsText, newLine, refusalText}
+use Rattle.printing.specs.Lines.{headText, monthText, monthsText, newLine, numbersText, refusalText}
 use Rattle.writer.specs.Shapes.{numberField}
 use Rattle.writer.specs.Written.{slot}
 
@@ -44,7 +44,7 @@ module _ (s : Sheet) (plan : Plan Delay) (c : Plan ℕ) (column rest : List ℤ)
     (paid : (m : ℕ) → m ≤ f → slot column m ≡ pays (lookupOf (s .given .table)) (signOf (s .from) (s .to)) c 0 m)
     (left : (m : ℕ) → m ≤ f → evaluate (cutPayoff (compilePlan start plan)) (s .given) (s .from) (s .to) (pos m) ≡ got (slot rest m)) where
   month-line : (m : ℕ) → m ≤ f → monthLine s plan c m ≡ got (monthText column rest m)
-  unfolding monthLine monthText
+  unfolding monthLine monthText numbersText
   month-line m h = rw (left m h, sym (paid m h)) (ap got (three-fields (printNat m) (printNumber (slot column m)) (printNumber (slot rest m))))
 
   pub month-lines : (n m : ℕ) → m + n ≤ suc f → monthLines s plan c m n ≡ got (monthsText column rest m n)
