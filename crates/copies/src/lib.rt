@@ -31,11 +31,7 @@ pub fn put_row(out: &mut [i64], count: usize, row: Row) -> usize
     let b = row.b;
     let c = row.c;
     let d = row.d;
-    out[5 * count] = letter;
-    out[5 * count + 1] = a;
-    out[5 * count + 2] = b;
-    out[5 * count + 3] = c;
-    out[5 * count + 4] = d;
+    nodes::put_row(out, count, letter, a, b, c, d);
     count + 1
 }
 

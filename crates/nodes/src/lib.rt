@@ -1,7 +1,10 @@
 // The node table: its rows, its links, and the letters that stand in it.
 ghost use mathlib.Core.Path.{_≡_};
-ghost use Prim.Native.Nat.{_<_};
+ghost use mathlib.Core.List.{[], _∷_};
+ghost use Prim.Native.Nat.{_*_, _+_, _<_, _≤_};
 ghost use lib.Dec.{T};
+ghost use lib.ListN.{length};
+ghost use lib.Seq.{sets};
 ghost use lib.Signed.{nonNeg};
 ghost use Rattle.nodes.specs.Table.{RowIn, slotAt, linkAt};
 ghost use Rattle.nodes.specs.Letters.{planLetter, payoffLetter, amountLetter, testLetter};
@@ -61,6 +64,18 @@ pub fn link(nodes: &&[i64], at: usize, k: usize) -> usize
 {
     let x = slot(nodes, at, k);
     at + x as usize
+}
+
+// A node's row, all five numbers of it.
+pub fn put_row(nodes: &mut [i64], i: usize, letter: i64, a: i64, b: i64, c: i64, d: i64)
+    requires { ⌜ 5 * i + 5 ≤ length (now nodes) ⌝ }
+    ensures { λ _. ⌜ now (nodes .exit) ≡ sets (now (nodes .entry)) (5 * i) (letter ∷ a ∷ b ∷ c ∷ d ∷ []) ⌝ }
+{
+    nodes[5 * i] = letter;
+    nodes[5 * i + 1] = a;
+    nodes[5 * i + 2] = b;
+    nodes[5 * i + 3] = c;
+    nodes[5 * i + 4] = d;
 }
 
 pub fn plan_letter(x: i64) -> PlanLetter

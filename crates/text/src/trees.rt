@@ -127,11 +127,7 @@ pub fn put_row(nodes: &mut [i64], i: usize, letter: u8, a: i64, b: i64, c: i64, 
     requires { ⌜ 5 * i + 5 ≤ length (now nodes) ⌝ }
     ensures { λ _. ⌜ now (nodes .exit) ≡ sets (now (nodes .entry)) (5 * i) (pos letter ∷ a ∷ b ∷ c ∷ d ∷ []) ⌝ }
 {
-    nodes[5 * i] = letter as i64;
-    nodes[5 * i + 1] = a;
-    nodes[5 * i + 2] = b;
-    nodes[5 * i + 3] = c;
-    nodes[5 * i + 4] = d;
+    nodes::put_row(nodes, i, letter as i64, a, b, c, d);
 }
 
 // The row of a node that was opened: its links are put in when its second and third child begin.

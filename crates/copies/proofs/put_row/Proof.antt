@@ -1,71 +1,14 @@
-use Prim.Native.Nat.{_*_, _+_, suc}
 use borrow.Author.Needs.{needs}
-use lib.ListN.{length-set}
-use mathlib.Core.Path.{_≡_, refl}
+use mathlib.Core.Path.{_∙_, refl}
 use mir.Facts.{toZ-ofZ}
 use mir.Syntax.{w64}
 use mir.Val.{SFits}
-use native.Mathlib.Omega.{arith}
 use Rattle.copies.proofs.Appending.{appended-row}
 use Rattle.copies.proofs.put_row.Statement.{statement}
 use Rattle.copies.proofs.put_row.Tie as tie
 
-mul-letter : tie.Need-mul-letter
-mul-letter c = search needs
-
-mul-letter-2 : tie.Need-mul-letter-2
-mul-letter-2 c = search needs
-
-slice-set-from-letter : tie.Need-slice-set-from-letter
-slice-set-from-letter c = search needs
-
-mul-a : tie.Need-mul-a
-mul-a c = search needs
-
-add-a : tie.Need-add-a
-add-a c = search needs
-
-mul-a-2 : tie.Need-mul-a-2
-mul-a-2 c = search needs
-
-slice-set-from-a : tie.Need-slice-set-from-a
-slice-set-from-a c = simp length-set (omega arith)
-
-mul-b : tie.Need-mul-b
-mul-b c = search needs
-
-add-b : tie.Need-add-b
-add-b c = search needs
-
-mul-b-2 : tie.Need-mul-b-2
-mul-b-2 c = search needs
-
-slice-set-from-b : tie.Need-slice-set-from-b
-slice-set-from-b c = simp length-set (omega arith)
-
-mul-c : tie.Need-mul-c
-mul-c c = search needs
-
-add-c : tie.Need-add-c
-add-c c = search needs
-
-mul-c-2 : tie.Need-mul-c-2
-mul-c-2 c = search needs
-
-slice-set-from-c : tie.Need-slice-set-from-c
-slice-set-from-c c = simp length-set (omega arith)
-
-mul-d : tie.Need-mul-d
-mul-d c = search needs
-
-add-d : tie.Need-add-d
-add-d c = search needs
-
-mul-d-2 : tie.Need-mul-d-2
-mul-d-2 c = search needs
-
-slice-set-from-d : tie.Need-slice-set-from-d
-slice-set-from-d c = simp length-set (omega arith)
+put-row-requires : tie.Need-put-row-requires
+put-row-requires c κs = search needs
 
 add-result : tie.Need-add-result
 add-result c = search needs
@@ -75,42 +18,14 @@ same-length c = search needs
 
 returns : tie.Need-returns
 returns c =
-    let s = c .before .before .before .before .before in
-    let a = s .args in
-    let l : SFits w64 (a .row .letter) = search needs in
-    let x : SFits w64 (a .row .a) = search needs in
-    let y : SFits w64 (a .row .b) = search needs in
-    let z : SFits w64 (a .row .c) = search needs in
-    let w : SFits w64 (a .row .d) = search needs in
-    let i1 : 5 * a .count + 1 ≡ suc (5 * a .count) = omega arith in
-    let i2 : 5 * a .count + 2 ≡ suc (suc (5 * a .count)) = omega arith in
-    let i3 : 5 * a .count + 3 ≡ suc (suc (suc (5 * a .count))) = omega arith in
-    let i4 : 5 * a .count + 4 ≡ suc (suc (suc (suc (5 * a .count)))) = omega arith in
-    appended-row (a .out .now) _ (a .count) _ refl (s .pre) (simp (i1, i2, i3, i4, toZ-ofZ l, toZ-ofZ x, toZ-ofZ y, toZ-ofZ z, toZ-ofZ w))
+    let s = c .before .before .before .before .before .before .before .before in
+    let r = s .args .row in
+    let l : SFits w64 (r .letter) = search needs in
+    let x : SFits w64 (r .a) = search needs in
+    let y : SFits w64 (r .b) = search needs in
+    let z : SFits w64 (r .c) = search needs in
+    let w : SFits w64 (r .d) = search needs in
+    appended-row (s .args .out .now) _ (s .args .count) _ refl (s .pre) (c .before .put-row .ensures ∙ simp (toZ-ofZ l, toZ-ofZ x, toZ-ofZ y, toZ-ofZ z, toZ-ofZ w))
 
 pub put-row-spec : {M : Type 1} → statement M
-put-row-spec =
-    tie.close
-    (tie.spec
-    mul-letter
-    mul-letter-2
-    slice-set-from-letter
-    mul-a
-    add-a
-    mul-a-2
-    slice-set-from-a
-    mul-b
-    add-b
-    mul-b-2
-    slice-set-from-b
-    mul-c
-    add-c
-    mul-c-2
-    slice-set-from-c
-    mul-d
-    add-d
-    mul-d-2
-    slice-set-from-d
-    add-result
-    same-length
-    returns)
+put-row-spec = tie.close (tie.spec put-row-requires add-result same-length returns)

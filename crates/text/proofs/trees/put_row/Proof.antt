@@ -1,108 +1,25 @@
-use Prim.Native.Nat.{_*_, _+_, _-_, suc}
-use lib.ListN.{length-set}
-use mathlib.Core.Path.{_≡_}
+use borrow.Author.Needs.{needs}
+use mathlib.Core.Path.{_∙_}
 use mir.Syntax.{w64}
 use mir.ValLaws.{toZ-ofZ, toZ-pos}
 use native.Mathlib.Omega.{arith}
-use borrow.Author.Needs.{needs}
 use Rattle.text.proofs.trees.put_row.Statement.{statement}
 use Rattle.text.proofs.trees.put_row.Tie as tie
 
-cast-nodes : tie.Need-cast-nodes
-cast-nodes c = search needs
+cast-put-row : tie.Need-cast-put-row
+cast-put-row c = search needs
 
-mul-t9 : tie.Need-mul-t9
-mul-t9 c = search needs
-
-mul-t10 : tie.Need-mul-t10
-mul-t10 c = search needs
-
-slice-set-from-nodes : tie.Need-slice-set-from-nodes
-slice-set-from-nodes c = search needs
-
-mul-a : tie.Need-mul-a
-mul-a c = search needs
-
-add-a : tie.Need-add-a
-add-a c = search needs
-
-mul-a-2 : tie.Need-mul-a-2
-mul-a-2 c = search needs
-
-slice-set-from-a : tie.Need-slice-set-from-a
-slice-set-from-a c = simp length-set (omega arith)
-
-mul-b : tie.Need-mul-b
-mul-b c = search needs
-
-add-b : tie.Need-add-b
-add-b c = search needs
-
-mul-b-2 : tie.Need-mul-b-2
-mul-b-2 c = search needs
-
-slice-set-from-b : tie.Need-slice-set-from-b
-slice-set-from-b c = simp length-set (omega arith)
-
-mul-c : tie.Need-mul-c
-mul-c c = search needs
-
-add-c : tie.Need-add-c
-add-c c = search needs
-
-mul-c-2 : tie.Need-mul-c-2
-mul-c-2 c = search needs
-
-slice-set-from-c : tie.Need-slice-set-from-c
-slice-set-from-c c = simp length-set (omega arith)
-
-mul-d : tie.Need-mul-d
-mul-d c = search needs
-
-add-d : tie.Need-add-d
-add-d c = search needs
-
-mul-d-2 : tie.Need-mul-d-2
-mul-d-2 c = search needs
-
-slice-set-from-d : tie.Need-slice-set-from-d
-slice-set-from-d c = simp length-set (omega arith)
+put-row-requires : tie.Need-put-row-requires
+put-row-requires c κs = search needs
 
 same-length : tie.Need-same-length
-same-length c = simp length-set
+same-length c = search needs
 
 returns : tie.Need-returns
 returns c =
-    let a = c .args in
-    let i1 : 5 * a .i + 1 ≡ suc (5 * a .i) = omega arith in
-    let i2 : 5 * a .i + 2 ≡ suc (suc (5 * a .i)) = omega arith in
-    let i3 : 5 * a .i + 3 ≡ suc (suc (suc (5 * a .i))) = omega arith in
-    let i4 : 5 * a .i + 4 ≡ suc (suc (suc (suc (5 * a .i)))) = omega arith in
-    simp (i1, i2, i3, i4, toZ-pos w64 (a .letter) (omega arith), toZ-ofZ w64 (a .a) (c .fits .a), toZ-ofZ w64 (a .b) (c .fits .b), toZ-ofZ w64 (a .c) (c .fits .c), toZ-ofZ w64 (a .d) (c .fits .d))
+    let s = c .before .before .before in
+    let a = s .args in
+    c .before .put-row .ensures ∙ simp (toZ-pos w64 (a .letter) (omega arith), toZ-ofZ w64 (a .a) (s .fits .a), toZ-ofZ w64 (a .b) (s .fits .b), toZ-ofZ w64 (a .c) (s .fits .c), toZ-ofZ w64 (a .d) (s .fits .d))
 
 pub put-row-spec : {M : Type 1} → statement M
-put-row-spec =
-    tie.close
-    (tie.spec
-    cast-nodes
-    mul-t9
-    mul-t10
-    slice-set-from-nodes
-    mul-a
-    add-a
-    mul-a-2
-    slice-set-from-a
-    mul-b
-    add-b
-    mul-b-2
-    slice-set-from-b
-    mul-c
-    add-c
-    mul-c-2
-    slice-set-from-c
-    mul-d
-    add-d
-    mul-d-2
-    slice-set-from-d
-    same-length
-    returns)
+put-row-spec = tie.close (tie.spec cast-put-row put-row-requires same-length returns)
