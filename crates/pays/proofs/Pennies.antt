@@ -31,7 +31,7 @@ nothing-of-nothing f e a = sym (ap (λ x. a *ℤ x) (sym (toZ-ofZ f) ∙ ap (toZ
 
 -- ---- parties
 
--- a row's number x is the party p: one below zero counts as 0, which is no party
+-- a number x is the party p: one below zero counts as 0, which is no party
 is-party : (x p : ℤ) → 0 < natOf p → eqb (natOf x) (natAbs p) ≡ eqZ x p
 is-party (pos n) (pos m) h = refl
 is-party (pos n) (negsuc m) h = absurd (omega arith)
@@ -61,23 +61,14 @@ module _ {r m : ℤ} (f : SFits w64 r) (g : SFits w64 m) (h : MonthIn r) (k : Mo
 abbrev signBy : Bool → Bool → Bool → ℤ
 signBy s t u = cond s (pos 0) (cond t (pos 1) (cond u (negsuc 0) (pos 0)))
 
--- u and v are the row's numbers x and y as code reads them
-module _ {p q u v x y : ℤ} (h : PairIn p q) (fp : SFits w64 p) (fq : SFits w64 q) (fu : SFits w64 u) (fv : SFits w64 v) (eu : u ≡ x) (ev : v ≡ y) where
+-- a penny from party u to party v
+module _ {p q u v : ℤ} (h : PairIn p q) (fp : SFits w64 p) (fq : SFits w64 q) (fu : SFits w64 u) (fv : SFits w64 v) where
   abbrev sign : ℤ
-  sign = signFor (natAbs p) (natAbs q) (natOf x) (natOf y)
+  sign = signFor (natAbs p) (natAbs q) (natOf u) (natOf v)
 
   sign-is : sign ≡ signBy (eqZ p q) (eqZ u p && eqZ v q) (eqZ u q && eqZ v p)
   unfolding signFor
-  sign-is =
-      rw (
-        same-party p q (h .first) (h .second),
-        is-party x p (h .first),
-        is-party y q (h .second),
-        is-party x q (h .second),
-        is-party y p (h .first),
-        ← eu,
-        ← ev,
-      )
+  sign-is = rw (same-party p q (h .first) (h .second), is-party u p (h .first), is-party v q (h .second), is-party u q (h .second), is-party v p (h .first))
 
   abbrev bits : ℤ → ℤ → Bool
   bits a b = eqb (ofZ w64 a) (ofZ w64 b)
@@ -107,3 +98,8 @@ module _ {p q u v x y : ℤ} (h : PairIn p q) (fp : SFits w64 p) (fq : SFits w64
 
       pub between-others : bits u q && bits v p ≡ false → pos 0 ≡ sign
       between-others e = sym (not-first false e)
+
+-- the same of the numbers x and y that stand in a row, read as u and v
+pub of-row : (p q : ℤ) {u v x y r : ℤ} → SFits w64 u → SFits w64 v → u ≡ x → v ≡ y
+    → r ≡ signFor (natAbs p) (natAbs q) (natOf (toZ w64 (ofZ w64 u))) (natOf (toZ w64 (ofZ w64 v))) → r ≡ signFor (natAbs p) (natAbs q) (natOf x) (natOf y)
+of-row p q fu fv eu ev e = e ∙ ap₂ (λ x y. signFor (natAbs p) (natAbs q) (natOf x) (natOf y)) (toZ-ofZ fu ∙ eu) (toZ-ofZ fv ∙ ev)

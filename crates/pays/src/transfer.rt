@@ -11,13 +11,11 @@ use crate::Pair;
 use integers::Month;
 use integers::Pence;
 
-// One penny from the row's first party to its second, as the pair counts it.
-pub fn penny(nodes: &&[i64], at: usize, pair: Pair) -> Pence
-    requires { ⌜ RowIn (now (now nodes)) at × PairIn (pair .p) (pair .q) ⌝ }
-    ensures { λ r. ⌜ r .0 ≡ signOf (pair .p) (pair .q) (natOf (slotAt (now (now (nodes .entry))) at 1)) (natOf (slotAt (now (now (nodes .entry))) at 2)) ⌝ }
+// One penny from party a to party b, as the pair counts it.
+pub fn penny_between(a: i64, b: i64, pair: Pair) -> Pence
+    requires { ⌜ PairIn (pair .p) (pair .q) ⌝ }
+    ensures { λ r. ⌜ r .0 ≡ signOf (pair .p) (pair .q) (natOf a) (natOf b) ⌝ }
 {
-    let a = nodes::slot(nodes, at, 1);
-    let b = nodes::slot(nodes, at, 2);
     if pair.p == pair.q {
         return Pence(0);
     }
@@ -28,6 +26,14 @@ pub fn penny(nodes: &&[i64], at: usize, pair: Pair) -> Pence
         return Pence(-1);
     }
     Pence(0)
+}
+
+// One penny from the row's first party to its second.
+pub fn penny(nodes: &&[i64], at: usize, pair: Pair) -> Pence
+    requires { ⌜ RowIn (now (now nodes)) at × PairIn (pair .p) (pair .q) ⌝ }
+    ensures { λ r. ⌜ r .0 ≡ signOf (pair .p) (pair .q) (natOf (slotAt (now (now (nodes .entry))) at 1)) (natOf (slotAt (now (now (nodes .entry))) at 2)) ⌝ }
+{
+    penny_between(nodes::slot(nodes, at, 1), nodes::slot(nodes, at, 2), pair)
 }
 
 // The penny in the month of the plan's root, else nothing.

@@ -18,25 +18,15 @@ use integers::Millionths;
 use integers::Month;
 use integers::Pence;
 use pays::Pair;
+use pays::transfer;
 use text::Refusal;
 
-// One penny from the leaf's first party to its second, as the pair counts it.
+// One penny from the leaf's first party to its second.
 pub fn penny(nodes: &&[i64], at: usize, pair: Pair) -> Pence
     requires { ⌜ RowIn (now (now nodes)) at × PairIn (pair .p) (pair .q) ⌝ }
     ensures { λ r. ⌜ r .0 ≡ signOf (pair .p) (pair .q) (natOf (slotAt (now (now (nodes .entry))) at 3)) (natOf (slotAt (now (now (nodes .entry))) at 4)) ⌝ }
 {
-    let a = nodes::slot(nodes, at, 3);
-    let b = nodes::slot(nodes, at, 4);
-    if pair.p == pair.q {
-        return Pence(0);
-    }
-    if (a == pair.p) & (b == pair.q) {
-        return Pence(1);
-    }
-    if (a == pair.q) & (b == pair.p) {
-        return Pence(-1);
-    }
-    Pence(0)
+    transfer::penny_between(nodes::slot(nodes, at, 3), nodes::slot(nodes, at, 4), pair)
 }
 
 // The discount factor of a month.
