@@ -5,7 +5,7 @@ use lib.IntN.{pos, ℤ}
 use lib.ListN.{drop, getD, length}
 use mathlib.Core.List.{List, [], _∷_}
 use mathlib.Core.Option.{none, some}
-use mathlib.Core.Path.{_∙_, _≡_, ap, refl, sym}
+use mathlib.Core.Path.{_∙_, _≡_, ap, refl, subst, sym}
 use native.Mathlib.Omega.{arith}
 use Rattle.language.specs.Answer.{got, refused}
 use Rattle.language.specs.Text.Classes.{Field, fieldOf}
@@ -13,7 +13,7 @@ use Rattle.language.specs.Text.Letters.{Class, month}
 use Rattle.language.specs.Text.Reader.{readFields}
 use Rattle.nodes.specs.Rows.{slotsOf}
 use Rattle.fields.specs.Classes.{classOf, rangeOf}
-use Rattle.fields.specs.Fields.{DigitIs, Four, Malformed, MonthIs, PairIs, ReadUpTo, SlotsAre, SlotsTried, Taken, TakenIs, TriedIs, Two, behind, classesOfThree, classesOfTwo, firstAs}
+use Rattle.fields.specs.Fields.{DigitIs, Four, Malformed, MonthIs, MonthTried, PairIs, ReadUpTo, SlotsAre, SlotsTried, Taken, TakenIs, TriedIs, Two, behind, classesOfThree, classesOfTwo, firstAs}
 use Rattle.fields.specs.Positions.{fieldsFrom, upTo}
 use Rattle.fields.specs.declared.field.Taking.{Taking}
 use Rattle.fields.specs.declared.field.Taking.the-variants.{Value, Wrong}
@@ -138,6 +138,17 @@ module _ (text : List ℕ) (at : ℕ) where
   }
   two-month Wrongs e = bad-first text at month [] e
 
+  -- a field with none behind it
+  alone : (k : Class) (a : ℤ) (next : ℕ) → Taken k text at (a ∷ []) next → Two (k ∷ []) text at a (pos 0) next
+  unfolding slotsOf
+  alone k a next t = record {
+    values = t .field ∷ [];
+    all = read-more text at k [] _ next t [] next (read-none text next (t .within));
+    first = rw (t .slot) refl;
+    second = rw (t .slot) refl;
+    third = rw (t .slot) refl;
+  }
+
   module _ (c d : ℕ) (n : c ≡ 0 → ⊥) (m : c ≡ 7 → ⊥) where
     pub one-class : d ≡ 0 → classesOfTwo c d ≡ classOf c ∷ []
     unfolding classesOfTwo
@@ -153,14 +164,7 @@ module _ (text : List ℕ) (at : ℕ) where
 
     module _ (a : ℤ) (next : ℕ) (t : Taken (classOf c) text at (a ∷ []) next) where
       pub two-one : (z : ℤ) → z ≡ a → d ≡ 0 → Two (classesOfTwo c d) text at z (pos 0) next
-      unfolding slotsOf
-      two-one z q e = rw (one-class e, q) (record {
-        values = t .field ∷ [];
-        all = read-more text at (classOf c) [] _ next t [] next (read-none text next (t .within));
-        first = rw (t .slot) refl;
-        second = rw (t .slot) refl;
-        third = rw (t .slot) refl;
-      })
+      two-one z q e = rw (one-class e, q) (alone (classOf c) a next t)
 
       pub two-second-bad : (d ≡ 0 → ⊥) → firstAs (classOf d) (fieldsFrom text next) ≡ none → Malformed (classesOfTwo c d) text at
       two-second-bad e h = rw (two-classes e) (bad-later text at (classOf c) _ _ next t (bad-first text next (classOf d) [] h))
@@ -211,7 +215,7 @@ module _ (text : List ℕ) (at : ℕ) where
     fourth = rw (t .slot) (r .third);
   })
 
-  -- ---- one field, and two that are no months
+  -- ---- one field
 
   pub four-one : (k : Class) (a : ℤ) (next : ℕ) → Taken k text at (a ∷ []) next → (x : ℤ) → x ≡ a → Four (k ∷ []) text at x (pos 0) (pos 0) (pos 0) next
   unfolding slotsOf
@@ -224,17 +228,21 @@ module _ (text : List ℕ) (at : ℕ) where
     fourth = rw (t .slot) refl;
   })
 
-  pub four-two : (k j : Class) (a b : ℤ) (next end : ℕ) → Taken k text at (a ∷ []) next → Taken j text next (b ∷ []) end
-      → (x y : ℤ) → x ≡ a → y ≡ b → Four (k ∷ j ∷ []) text at x y (pos 0) (pos 0) end
-  unfolding slotsOf
-  four-two k j a b next end t u x y p q = rw (p, q) (record {
-    values = t .field ∷ u .field ∷ [];
-    all = read-more text at k _ _ next t _ end (read-more text next j [] _ end u [] end (read-none text end (u .within)));
-    first = rw (t .slot) refl;
-    second = rw (t .slot, u .slot) refl;
-    third = rw (t .slot, u .slot) refl;
-    fourth = rw (t .slot, u .slot) refl;
-  })
+  -- ---- fields of one digit, where any others are not told
+
+  module _ (r : Taking) (a : ℤ) (next : ℕ) (e : r ≡ Value a next) where
+    pub tried-alone : (k : Class) → TriedIs k text at r → Two (k ∷ []) text at a (pos 0) next
+    tried-alone k h = alone k a next (subst (TriedIs k text at) e h .0)
+
+    pub tried-month : MonthTried text at r → Two (month ∷ []) text at a (pos 0) next
+    tried-month h = two-month (Values a (pos 0) next) (subst (MonthTried text at) e h .0)
+
+    -- the first of two: the other stands behind its comma
+    pub tried-first : (k : Class) (ks : List Class) → TriedIs k text at r → (b : ℤ) (end : ℕ) → Two ks text (at + 2) b (pos 0) end
+        → (x y : ℤ) → x ≡ a → y ≡ b → Four (k ∷ ks) text at x y (pos 0) (pos 0) end
+    tried-first k ks h b end two x y p q =
+        let t = subst (TriedIs k text at) e h in
+        four-field k ks a b (pos 0) (at + 2) end (subst (λ (n : ℕ). Taken k text at (a ∷ []) n) (t .1) (t .0)) two x y (pos 0) p q refl
 
 -- where all is known of fields, something is
 pub are-tried : (cs : List Class) (text : List ℕ) (at : ℕ) (r : Slots) → SlotsAre cs text at r → SlotsTried cs text at r

@@ -1,6 +1,7 @@
 -- Laws of numbers, settings and fields.
 pub mod Positions
 pub mod NumberLaws
+pub mod FewDigits
 pub mod ClassLaws
 pub mod FieldLaws
 pub mod SettingLaws

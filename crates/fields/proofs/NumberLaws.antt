@@ -1,5 +1,5 @@
 -- Laws of whole numbers, as the code reads them digit by digit.
-use Prim.Native.Nat.{_*_, _+_, _-_, _<_, _^_, _≤_, suc, zero, ℕ}
+use Prim.Native.Nat.{_*_, _+_, _-_, _<_, _≤_, suc, zero, ℕ}
 use borrow.Author.Tests.{eq-eqb, eqb-false, eqb-true, le-leb, lt-leb, ne-eqb}
 use lib.Dec.{eqb}
 use lib.IntN.{_-ℤ_, +ℤ-idl, negℤ, pos, ℤ}
@@ -10,7 +10,6 @@ use mathlib.Core.List.{List, [], _∷_, foldl}
 use mathlib.Core.Logic.{_⊎_, inl, inr}
 use mathlib.Core.Option.{Option, none, some}
 use mathlib.Core.Path.{_∙_, _≡_, ap, refl}
-use native.Mathlib.Nat.{pow-suc}
 use native.Mathlib.Omega.{arith}
 use mir.Syntax.{w64}
 use mir.Val.{SFits, toZ}
@@ -222,18 +221,3 @@ unfolding plus
 tried-plus text at h l u (Plain v end) r =
     number-plus (upTo 44 (drop at text)) at (λ e. omega (arith, led-head text at h l u, e)) (Plain v end) (led-natural text at h l u (Plain v end) r)
 tried-plus text at h l u Malformed r = tt
-
--- ---- at most eight digits
-
-tens-up : (k n : ℕ) → k ≤ n → 10 ^ k ≤ 10 ^ n
-tens-up zero zero h = omega arith
-tens-up zero (suc n) h = let e = tens-up zero n (omega arith) in rw (pow-suc 10 n) (omega (arith, e))
-tens-up (suc k) zero h = absurd (omega arith)
-tens-up (suc k) (suc n) h = let e = tens-up k n (omega arith) in rw (pow-suc 10 k, pow-suc 10 n) (omega (arith, e))
-
--- k of them are below ten to the k
-pub digits-below : (k v d : ℕ) → v < 10 ^ k → d ≤ 9 → v * 10 + d < 10 ^ (k + 1)
-digits-below k v d h l = let e : k + 1 ≡ suc k = omega arith in rw (e, pow-suc 10 k) (omega (arith, h, l))
-
-pub eight-below : (k v : ℕ) → k ≤ 8 → v < 10 ^ k → v < 100000000
-eight-below k v l h = omega (arith, h, tens-up k 8 l)

@@ -1,55 +1,30 @@
-use Prim.Native.Nat.{ℕ}
-use lib.IntN.{pos}
-use mathlib.Core.List.{[], _∷_}
-use mathlib.Core.Path.{refl, subst}
 use mir.Syntax.{w64}
 use mir.ValLaws.{toZ-ofZ}
 use native.Mathlib.Omega.{arith}
-use Rattle.fields.specs.Classes.{classOf}
-use Rattle.fields.specs.Fields.{MonthTried, Taken, TriedIs}
-use Rattle.fields.specs.declared.slots.Taking2.the-variants.{Values}
-use Rattle.fields.proofs.FieldLaws.{four-field, two-month}
+use Rattle.fields.proofs.FieldLaws.{tried-first, tried-month}
 use borrow.Author.Needs.{needs}
 use Rattle.fields.proofs.slots.reading_digits.Statement.{statement}
 use Rattle.fields.proofs.slots.reading_digits.Tie as tie
 
-one-digit-requires : tie.Need-one-digit-requires
-one-digit-requires c κs = search needs
-
-enum-known-a : tie.Need-enum-known-a
-enum-known-a c = search needs
-
-add-month-digit : tie.Need-add-month-digit
-add-month-digit c = search needs
-
-month-digit-requires : tie.Need-month-digit-requires
-month-digit-requires c κs = search needs
-
-enum-known-b : tie.Need-enum-known-b
-enum-known-b c = search needs
-
-enum-told : tie.Need-enum-told
-enum-told c = search needs
-
-enum-told-2 : tie.Need-enum-told-2
-enum-told-2 c = search needs
-
 returns : tie.Need-returns
 returns c =
     let a = c .before .before .before .before .before .before .before .before .before .args in
-    let t = a .text .now in
-    let k = subst (TriedIs _ _ _) (c .before .before .before .before .before .a .given .1) (c .before .before .before .before .before .before .before .one-digit .ensures) in
-    let m = subst (MonthTried _ _) (c .before .b .given .1) (c .before .before .before .month-digit .ensures) in
-    let first = subst (λ (n : ℕ). Taken (classOf 4) t (a .at) (c .before .before .before .before .before .a .given .0 .0 ∷ []) n) (k .1) (k .0) in
-    four-field t (a .at) _ _ _ _ _ _ _ first (two-month t _ (Values (c .before .b .given .0 .0) (pos 0) (c .before .b .given .0 .1 .0)) (m .0)) _ _ _
-    (toZ-ofZ w64 (c .before .before .before .before .before .a .given .0 .0) (record { sfits = omega (arith, c .before .before .before .before .known-told .given) }))
-    (toZ-ofZ w64 (c .before .b .given .0 .0) (record { sfits = omega (arith, c .known-told2 .given) })) refl
-
-returns-2 : tie.Need-returns-2
-returns-2 c = search needs
-
-returns-3 : tie.Need-returns-3
-returns-3 c = search needs
+    let r = c .before .before .before .before .before .a .given in
+    let s = c .before .b .given in
+    tried-first (a .text .now) (a .at) _ _ _ (r .1) _ _ (c .before .before .before .before .before .before .before .one-digit .ensures) _ _ (tried-month _ _ _ _ _ (s .1) (c .before .before .before .month-digit .ensures))
+    _ _ (toZ-ofZ w64 (r .0 .0) (record { sfits = omega (arith, c .before .before .before .before .known-told .given) })) (toZ-ofZ w64 (s .0 .0) (record { sfits = omega (arith, c .known-told2 .given) }))
 
 pub reading-digits-spec : {M : Type 1} → statement M
-reading-digits-spec = tie.close (tie.spec one-digit-requires enum-known-a add-month-digit month-digit-requires enum-known-b enum-told enum-told-2 returns returns-2 returns-3)
+reading-digits-spec =
+    tie.close
+    (tie.spec
+    (λ c κs. search needs)
+    (λ c. search needs)
+    (λ c. search needs)
+    (λ c κs. search needs)
+    (λ c. search needs)
+    (λ c. search needs)
+    (λ c. search needs)
+    returns
+    (λ c. search needs)
+    (λ c. search needs))
