@@ -16,8 +16,14 @@ use Rattle.text.specs.declared.letters.TextForm.{TextForm}
 use Rattle.text.specs.declared.letters.TextForm.the-variants.{Payoff, Plan}
 
 module _ {P : Type 0} (form : Form P) (b : ℕ) (s t : Shape) where
-  pub known : (k : ℕ) (l : Letter P) → b ≡ k → s ≡ t → letterAmong form (rootsThen form (form .letters)) k ≡ some l → Shaped form k l t → ShapeIs form b s
-  known k l e f g h = rw (e, f, g) h
+  -- letter l is byte k, and t is its row: equations that compute
+  pub known : (k : ℕ) (l : Letter P) → b ≡ k → s ≡ t → letterAmong form (rootsThen form (form .letters)) k ≡ some l
+      → rowOf form l .letter ≡ k → t .kind ≡ kindNumber (kindOf form l) → rowOf form l .fields ≡ classesOfThree (t .first) (t .second) (t .third)
+      → rowOf form l .children ≡ kinds (t .kid1) (t .kid2) (t .kid3) → leb (t .kid1) 3 && (leb (t .kid2) 3 && leb (t .kid3) 3) ≡ true → ShapeIs form b s
+  known k l e f g is sort classes below small =
+      let x = and-e (leb (t .kid1) 3) (leb (t .kid2) 3 && leb (t .kid3) 3) small in
+      let y = and-e (leb (t .kid2) 3) (leb (t .kid3) 3) (x .1) in
+      rw (e, f, g) (record { is = is; sort = sort; classes = classes; below = below; small = (leb-true _ _ (x .0), leb-true _ _ (y .0), leb-true _ _ (y .1)) })
 
   pub unknown : s ≡ t → letterAmong form (rootsThen form (form .letters)) b ≡ none → t .kind ≡ 0 → ShapeIs form b s
   unknown f g h = rw (f, g) h

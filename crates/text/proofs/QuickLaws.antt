@@ -40,42 +40,42 @@ waitShape = record { kind = 1; first = 2; second = 0; third = 0; kid1 = 3; kid2 
 
 pub number-shape : (form : TextForm) → ShapeIs (formOf form) 78 (commonShape 2 1 0 0 0)
 unfolding letterAmong rowOf planRow payoffRow amountRow testRow classesOfThree classesOfTwo classOf kinds kindAt
-number-shape Plan = known planForm _ _ _ 78 (ofAmount AmountLetter.N) refl refl refl (record { is = refl; sort = refl; classes = refl; below = refl; small = (omega arith, omega arith, omega arith) })
-number-shape Payoff = known payoffForm _ _ _ 78 (ofAmount AmountLetter.N) refl refl refl (record { is = refl; sort = refl; classes = refl; below = refl; small = (omega arith, omega arith, omega arith) })
+number-shape Plan = known planForm _ _ _ 78 (ofAmount AmountLetter.N) refl refl refl refl refl refl refl refl
+number-shape Payoff = known payoffForm _ _ _ 78 (ofAmount AmountLetter.N) refl refl refl refl refl refl refl refl
 
 pub index-shape : ShapeIs planForm 79 (commonShape 2 4 5 0 0)
 unfolding letterAmong rowOf planRow amountRow testRow classesOfThree classesOfTwo classOf kinds kindAt
-index-shape = known planForm _ _ _ 79 (ofAmount AmountLetter.O) refl refl refl (record { is = refl; sort = refl; classes = refl; below = refl; small = (omega arith, omega arith, omega arith) })
+index-shape = known planForm _ _ _ 79 (ofAmount AmountLetter.O) refl refl refl refl refl refl refl refl
 
 pub reading-shape : ShapeIs payoffForm 79 (commonShape 2 4 7 0 0)
 unfolding letterAmong rowOf payoffRow amountRow testRow classesOfThree classesOfTwo classOf kinds kindAt
-reading-shape = known payoffForm _ _ _ 79 (ofAmount AmountLetter.O) refl refl refl (record { is = refl; sort = refl; classes = refl; below = refl; small = (omega arith, omega arith, omega arith) })
+reading-shape = known payoffForm _ _ _ 79 (ofAmount AmountLetter.O) refl refl refl refl refl refl refl refl
 
 pub transfer-shape : ShapeIs planForm 84 (commonShape 1 3 3 0 0)
 unfolding letterAmong rowOf planRow amountRow testRow classesOfThree classesOfTwo classOf kinds kindAt
-transfer-shape = known planForm _ _ _ 84 (ofRoot PlanLetter.T) refl refl refl (record { is = refl; sort = refl; classes = refl; below = refl; small = (omega arith, omega arith, omega arith) })
+transfer-shape = known planForm _ _ _ 84 (ofRoot PlanLetter.T) refl refl refl refl refl refl refl refl
 
 pub future-shape : ShapeIs payoffForm 70 (commonShape 1 7 3 3 0)
 unfolding letterAmong rowOf payoffRow amountRow testRow classesOfThree classesOfTwo classOf kinds kindAt
-future-shape = known payoffForm _ _ _ 70 (ofRoot PayoffLetter.F) refl refl refl (record { is = refl; sort = refl; classes = refl; below = refl; small = (omega arith, omega arith, omega arith) })
+future-shape = known payoffForm _ _ _ 70 (ofRoot PayoffLetter.F) refl refl refl refl refl refl refl refl
 
 pub cut-shape : ShapeIs payoffForm 72 (commonShape 1 7 3 3 0)
 unfolding letterAmong rowOf payoffRow amountRow testRow classesOfThree classesOfTwo classOf kinds kindAt
-cut-shape = known payoffForm _ _ _ 72 (ofRoot PayoffLetter.H) refl refl refl (record { is = refl; sort = refl; classes = refl; below = refl; small = (omega arith, omega arith, omega arith) })
+cut-shape = known payoffForm _ _ _ 72 (ofRoot PayoffLetter.H) refl refl refl refl refl refl refl refl
 
 pub delay-shape : ShapeIs planForm 76 (commonShape 1 2 0 0 1)
 unfolding letterAmong rowOf planRow amountRow testRow classesOfThree classesOfTwo classOf kinds kindAt
-delay-shape = known planForm _ _ _ 76 (ofRoot PlanLetter.L) refl refl refl (record { is = refl; sort = refl; classes = refl; below = refl; small = (omega arith, omega arith, omega arith) })
+delay-shape = known planForm _ _ _ 76 (ofRoot PlanLetter.L) refl refl refl refl refl refl refl refl
 
 pub quotient-shape : (form : TextForm) → ShapeIs (formOf form) 81 (commonShape 2 6 0 0 2)
 unfolding letterAmong rowOf planRow payoffRow amountRow testRow classesOfThree classesOfTwo classOf kinds kindAt
-quotient-shape Plan = known planForm _ _ _ 81 (ofAmount AmountLetter.Q) refl refl refl (record { is = refl; sort = refl; classes = refl; below = refl; small = (omega arith, omega arith, omega arith) })
-quotient-shape Payoff = known payoffForm _ _ _ 81 (ofAmount AmountLetter.Q) refl refl refl (record { is = refl; sort = refl; classes = refl; below = refl; small = (omega arith, omega arith, omega arith) })
+quotient-shape Plan = known planForm _ _ _ 81 (ofAmount AmountLetter.Q) refl refl refl refl refl refl refl refl
+quotient-shape Payoff = known payoffForm _ _ _ 81 (ofAmount AmountLetter.Q) refl refl refl refl refl refl refl refl
 
 pub wait-shape : (form : TextForm) → ShapeIs (formOf form) 87 waitShape
 unfolding letterAmong rowOf planRow payoffRow amountRow testRow classesOfThree classesOfTwo classOf kinds kindAt
-wait-shape Plan = known planForm _ _ _ 87 (ofRoot PlanLetter.W) refl refl refl (record { is = refl; sort = refl; classes = refl; below = refl; small = (omega arith, omega arith, omega arith) })
-wait-shape Payoff = known payoffForm _ _ _ 87 (ofRoot PayoffLetter.W) refl refl refl (record { is = refl; sort = refl; classes = refl; below = refl; small = (omega arith, omega arith, omega arith) })
+wait-shape Plan = known planForm _ _ _ 87 (ofRoot PlanLetter.W) refl refl refl refl refl refl refl refl
+wait-shape Payoff = known payoffForm _ _ _ 87 (ofRoot PayoffLetter.W) refl refl refl refl refl refl refl refl
 
 -- ---- a letter without fields, in front of a comma or at the text's end
 
