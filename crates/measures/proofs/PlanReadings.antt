@@ -5,6 +5,7 @@ use Rattle.integers.proofs.Solver.{_⊕_, _⊖_, lit, ring, var, ⊝}
 use Rattle.integers.specs.Bounded.{Small}
 use Rattle.language.specs.Limits.{maxMonths}
 use Rattle.language.specs.Rules.Table.{Table}
+use Rattle.measures.proofs.Lengths.{few}
 use Rattle.measures.specs.Spans.{Near, Seen}
 use lib.IntN.{_+ℤ_, _-ℤ_, natAbs, negℤ, pos, ℤ}
 use lib.ListN.{length-replicate, replicate}
@@ -18,11 +19,13 @@ less-by : (x : ℤ) {d y : ℤ} (n : ℕ) → d ≡ pos n → y ≡ x -ℤ d →
 less-by x n ed ey = rw (ey, ed) (natAbs-sub x (pos n))
 
 module _ {left : ℕ} {low high : ℤ} (h : Near left low high) where
-  pub low-small : Small low
-  low-small = record { small = omega (arith, h .lowRoom) }
+  -- either, and a delay that is taken from it
+  module _ {d : ℤ} {n : ℕ} (ed : d ≡ pos n) (b : n ≤ maxMonths) where
+    pub low-later : Small low × Small d
+    low-later = (record { small = omega (arith, h .lowRoom) }, few ed (omega (arith, b)))
 
-  pub high-small : Small high
-  high-small = record { small = omega (arith, h .highRoom) }
+    pub high-later : Small high × Small d
+    high-later = (record { small = omega (arith, h .highRoom) }, few ed (omega (arith, b)))
 
   module _ (some : 0 < left) where
     pub near-down : Near (left - 1) low high

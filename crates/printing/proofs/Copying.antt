@@ -1,17 +1,14 @@
 -- A line's numbers copied from the line before.
 use Prim.Native.Nat.{_+_, _-_, _<_, _≤_, min, suc, zero, ℕ}
 use borrow.Author.Tests.{eqb-true}
-use lib.Dec.{eqb}
-use lib.IntN.{ℤ}
+use lib.IntN.{negsuc, pos, ℤ}
 use lib.ListN.{drop, getD, length, length-drop, length-take, set, take}
 use lib.Seq.{drop-at, drop-cons, drop-drop, ext-getD, getD-drop, getD-set-other, getD-take, length-sets, length-take-le, set-set, sets, sets-eq, take-add, take-append-seam, take-take}
-use mathlib.Core.Bool.{true}
+use mathlib.Core.Bool.{true, true≢false}
 use mathlib.Core.List.{List, [], _++_, _∷_, append-assoc}
 use mathlib.Core.Path.{_∙_, _≡_, ap, ap₂, refl, subst, sym}
-use mir.Facts.{toZ-ofZ}
-use mir.Syntax.{w64}
-use mir.Val.{SFits, ofZ, toZ}
 use native.Mathlib.Omega.{arith}
+use Rattle.integers.specs.Equal.{eqZ}
 use Rattle.language.specs.Text.Number.{printNat}
 use Rattle.printing.proofs.Words.{Spelt, spelt-more}
 use Rattle.printing.specs.Lines.{monthText, newLine, numbersText}
@@ -22,8 +19,11 @@ use Rattle.writer.specs.Written.{slot}
 
 -- ---- a number that stands twice
 
-pub equal-number : {x y : ℤ} → SFits w64 x → SFits w64 y → eqb (ofZ w64 x) (ofZ w64 y) ≡ true → x ≡ y
-equal-number {x} {y} f g e = sym (toZ-ofZ f) ∙ ap (toZ w64) (eqb-true (ofZ w64 x) (ofZ w64 y) e) ∙ toZ-ofZ g
+pub equal-number : (x y : ℤ) → eqZ x y ≡ true → x ≡ y
+equal-number (pos a) (pos b) e = ap pos (eqb-true a b e)
+equal-number (pos a) (negsuc b) e = absurd (true≢false (sym e))
+equal-number (negsuc a) (pos b) e = absurd (true≢false (sym e))
+equal-number (negsuc a) (negsuc b) e = ap negsuc (eqb-true a b e)
 
 -- ---- bytes in front of a run, and those of the run
 

@@ -17,17 +17,10 @@ use Rattle.writer.specs.Written.{slot}
 
 -- ---- one line
 module _ (column rest : List ℤ) (m : ℕ) where
-  abbrev behind-month : List ℕ
-  behind-month = numberField (slot column m) ++ (numberField (slot rest m) ++ newLine)
-
-  pub month-parts : monthText column rest m ≡ printNat m ++ behind-month
-  unfolding monthText numbersText
-  month-parts = refl
-
   pub month-counted : {a b c : ℕ} → a ≡ length (printNat m) → b ≡ length (printNumber (slot column m)) → c ≡ length (printNumber (slot rest m)) → (a + b + c + 3 ≡ length (monthText column rest m)) × (a + b + c + 3 ≤ 70)
   unfolding monthText numbersText
   month-counted {a} {b} {c} ea eb ec = (
-    omega (arith, ea, eb, ec, length-append (printNat m) behind-month, length-append (numberField (slot column m)) (numberField (slot rest m) ++ newLine), length-append (numberField (slot rest m)) newLine),
+    omega (arith, ea, eb, ec, length-append (printNat m) (numbersText column rest m), length-append (numberField (slot column m)) (numberField (slot rest m) ++ newLine), length-append (numberField (slot rest m)) newLine),
     omega (arith, ea, digits-most m, number-small (slot column m) b eb, number-small (slot rest m) c ec),
   )
 

@@ -4,13 +4,14 @@ ghost use mathlib.Core.Bool.{true};
 ghost use Prim.Native.Nat.{_+_, _-_, _<_, _≤_};
 ghost use lib.ListN.{drop, length, take};
 ghost use lib.Seq.{sets};
+ghost use Rattle.integers.specs.Equal.{eqZ};
 ghost use Rattle.writer.specs.Put.{Put};
 ghost use Rattle.writer.specs.Written.{slot};
 
 // Whether a list has the number of the month before again.
 fn repeats(list: &[i64], m: usize) -> bool
     requires { ⌜ (0 < m) × (m < length (now list)) ⌝ }
-    ensures { λ r. ⌜ (r ≡ true → slot (now (list .entry)) m ≡ slot (now (list .entry)) (m - 1)) ⌝ }
+    ensures { λ r. ⌜ r ≡ eqZ (slot (now (list .entry)) m) (slot (now (list .entry)) (m - 1)) ⌝ }
 {
     let a = list[m];
     let b = list[m - 1];

@@ -1,4 +1,4 @@
--- The natural numbers of an answer fit i64.
+-- An answer's count of bytes fits i64.
 use Prim.Native.Nat.{_<_, _^_}
 use mathlib.Core.Path.{_≡_}
 use Rattle.language.specs.Answer.{Answer, got}

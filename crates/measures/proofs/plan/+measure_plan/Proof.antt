@@ -1,5 +1,4 @@
 use Prim.Native.Nat.{_-_}
-use Rattle.measures.proofs.Lengths as lengths
 use Rattle.measures.proofs.PlanMeasures as laws
 use Rattle.measures.proofs.PlanReadings as offsets
 use Rattle.measures.proofs.PlanRows as rows
@@ -151,7 +150,7 @@ measure-plan-nearer-requires t c κs =
     let m = c .before .before .before .before .pre .1 .1 in
     let k = c .before .before .before .plan-kind .ensures in
     let q = c .before .enum-told4 .given .1 in
-    (offsets.low-small m, lengths.few (c .delay .ensures) (omega (arith, plans.later-ready h k q .0)))
+    offsets.low-later m (c .delay .ensures) (plans.later-ready h k q .0)
 
 measure-plan-nearer-requires-2 : (t : ℕ) → measure-plan-lts.Need-nearer-requires-2 (measure-plan-calls t) (measure-plan-at t) measure-plan.Post
 measure-plan-nearer-requires-2 t c κs =
@@ -159,7 +158,7 @@ measure-plan-nearer-requires-2 t c κs =
     let m = c .before .before .before .before .before .pre .1 .1 in
     let k = c .before .before .before .before .plan-kind .ensures in
     let q = c .before .before .enum-told4 .given .1 in
-    (offsets.high-small m, lengths.few (c .before .delay .ensures) (omega (arith, plans.later-ready h k q .0)))
+    offsets.high-later m (c .before .delay .ensures) (plans.later-ready h k q .0)
 
 measure-plan-add-measure-plan : (t : ℕ) → measure-plan-lts.Need-add-measure-plan (measure-plan-calls t) (measure-plan-at t) measure-plan.Post
 measure-plan-add-measure-plan t c =
@@ -256,7 +255,7 @@ measure-plan-nearer-requires-3 t c κs =
     let m = c .before .before .before .before .pre .1 .1 in
     let k = c .before .before .before .plan-kind .ensures in
     let q = c .before .enum-told6 .given .1 in
-    (offsets.low-small m, lengths.few (c .delay2 .ensures) (omega (arith, plans.within-ready h k q .0)))
+    offsets.low-later m (c .delay2 .ensures) (plans.within-ready h k q .0)
 
 measure-plan-nearer-requires-4 : (t : ℕ) → measure-plan-lts.Need-nearer-requires-4 (measure-plan-calls t) (measure-plan-at t) measure-plan.Post
 measure-plan-nearer-requires-4 t c κs =
@@ -264,7 +263,7 @@ measure-plan-nearer-requires-4 t c κs =
     let m = c .before .before .before .before .before .pre .1 .1 in
     let k = c .before .before .before .before .plan-kind .ensures in
     let q = c .before .before .enum-told6 .given .1 in
-    (offsets.high-small m, lengths.few (c .before .delay2 .ensures) (omega (arith, plans.within-ready h k q .0)))
+    offsets.high-later m (c .before .delay2 .ensures) (plans.within-ready h k q .0)
 
 measure-plan-link-requires-3 : (t : ℕ) → measure-plan-lts.Need-link-requires-3 (measure-plan-calls t) (measure-plan-at t) measure-plan.Post
 measure-plan-link-requires-3 t c κs =

@@ -1,5 +1,4 @@
 use Prim.Native.Nat.{_*_, _+_, _-_, _/_}
-use Rattle.measures.proofs.Lengths as lengths
 use Rattle.measures.proofs.PlanMeasures as plain
 use Rattle.measures.proofs.PlanReadings as offsets
 use Rattle.measures.proofs.PlanRows as rows
@@ -184,7 +183,7 @@ quick-plan-nearer-requires t c κs =
     let m = c .before .before .before .before .pre .1 .1 in
     let k = c .before .before .before .plan-kind .ensures in
     let q = c .before .enum-told4 .given .1 in
-    (offsets.low-small m, lengths.few (c .delay .ensures) (omega (arith, plans.later-ready h k q .0)))
+    offsets.low-later m (c .delay .ensures) (plans.later-ready h k q .0)
 
 quick-plan-nearer-requires-2 : (t : ℕ) → quick-plan-lts.Need-nearer-requires-2 (quick-plan-calls t) (quick-plan-at t) quick-plan.Post
 quick-plan-nearer-requires-2 t c κs =
@@ -192,7 +191,7 @@ quick-plan-nearer-requires-2 t c κs =
     let m = c .before .before .before .before .before .pre .1 .1 in
     let k = c .before .before .before .before .plan-kind .ensures in
     let q = c .before .before .enum-told4 .given .1 in
-    (offsets.high-small m, lengths.few (c .before .delay .ensures) (omega (arith, plans.later-ready h k q .0)))
+    offsets.high-later m (c .before .delay .ensures) (plans.later-ready h k q .0)
 
 quick-plan-months-requires : (t : ℕ) → quick-plan-lts.Need-months-requires (quick-plan-calls t) (quick-plan-at t) quick-plan.Post
 quick-plan-months-requires t c κs =
@@ -276,7 +275,7 @@ quick-plan-nearer-requires-3 t c κs =
     let m = c .before .before .before .before .pre .1 .1 in
     let k = c .before .before .before .plan-kind .ensures in
     let q = c .before .enum-told6 .given .1 in
-    (offsets.low-small m, lengths.few (c .delay2 .ensures) (omega (arith, plans.within-ready h k q .0)))
+    offsets.low-later m (c .delay2 .ensures) (plans.within-ready h k q .0)
 
 quick-plan-nearer-requires-4 : (t : ℕ) → quick-plan-lts.Need-nearer-requires-4 (quick-plan-calls t) (quick-plan-at t) quick-plan.Post
 quick-plan-nearer-requires-4 t c κs =
@@ -284,7 +283,7 @@ quick-plan-nearer-requires-4 t c κs =
     let m = c .before .before .before .before .before .pre .1 .1 in
     let k = c .before .before .before .before .plan-kind .ensures in
     let q = c .before .before .enum-told6 .given .1 in
-    (offsets.high-small m, lengths.few (c .before .delay2 .ensures) (omega (arith, plans.within-ready h k q .0)))
+    offsets.high-later m (c .before .delay2 .ensures) (plans.within-ready h k q .0)
 
 quick-plan-link-requires-3 : (t : ℕ) → quick-plan-lts.Need-link-requires-3 (quick-plan-calls t) (quick-plan-at t) quick-plan.Post
 quick-plan-link-requires-3 t c κs =

@@ -1,7 +1,8 @@
 use borrow.Author.Needs.{needs}
 use mathlib.Core.Bool.{true≢false}
-use mathlib.Core.Path.{sym}
+use mathlib.Core.Path.{_∙_, sym}
 use native.Mathlib.Omega.{arith}
+use Rattle.printing.proofs.Copying.{equal-number}
 use Rattle.printing.proofs.again.is_again.Statement.{statement}
 use Rattle.printing.proofs.again.is_again.Tie as tie
 
@@ -13,7 +14,12 @@ repeats-requires-2 c κs = search needs
 
 returns : tie.Need-returns
 returns c =
-    λ e. (c .before .before .before .before .if1 .taken, c .before .before .before .if2 .taken, c .before .before .repeats .ensures (c .before .if3 .taken), c .repeats2 .ensures e)
+    λ e. (
+      c .before .before .before .before .if1 .taken,
+      c .before .before .before .if2 .taken,
+      equal-number _ _ (sym (c .before .before .repeats .ensures) ∙ c .before .if3 .taken),
+      equal-number _ _ (sym (c .repeats2 .ensures) ∙ e),
+    )
 
 returns-2 : tie.Need-returns-2
 returns-2 c = λ e. absurd (true≢false (sym e))

@@ -2,7 +2,7 @@ use borrow.Author.Needs.{needs}
 use lib.IntN.{pos}
 use lib.ListN.{getD}
 use Prim.Native.Nat.{_-_}
-use Rattle.printing.proofs.Copying.{equal-number}
+use Rattle.integers.proofs.Bits.{same-bits}
 use mir.Syntax.{w64}
 use mir.Val.{SFits}
 use Rattle.printing.proofs.again.repeats.Statement.{statement}
@@ -28,7 +28,7 @@ returns c =
     let a = c .before .before .args in
     let f : SFits w64 (getD (a .list .now) (a .m) (pos 0)) = search needs in
     let g : SFits w64 (getD (a .list .now) (a .m - 1) (pos 0)) = search needs in
-    λ e. equal-number f g e
+    same-bits _ _ f g
 
 pub repeats-spec : {M : Type 1} → statement M
 repeats-spec =
