@@ -104,3 +104,38 @@ pub fn text() -> String {
     }
     text
 }
+
+#[cfg(test)]
+mod tests {
+    use super::*;
+
+    /// The figures of the C header: calls, and the most bytes of stack that they are said to take.
+    fn said() -> Vec<(String, usize)> {
+        let header = include_str!("../../include/codhungu.h");
+        let lines = header
+            .lines()
+            .skip_while(|line| !line.contains("in bytes (x86-64)"));
+        let figures = lines.skip(2).map_while(|line| {
+            let (calls, bytes) = line.trim_start_matches(" *").trim().rsplit_once(' ')?;
+            Some((calls.trim().into(), bytes.replace(',', "").parse().ok()?))
+        });
+        figures.collect()
+    }
+
+    #[test]
+    fn the_header_says_what_each_call_takes() {
+        let said = said();
+        for call in CALLS {
+            let names = |calls: &str| calls.split(", ").any(|name| name == call.name());
+            let (_, limit) = said.iter().find(|(calls, _)| names(calls)).unwrap();
+            let (bytes, load) = most(call);
+            assert!(bytes <= *limit, "{}: {bytes} on {load}", call.name());
+            assert!(limit - bytes < 2_000, "{}: only {bytes}", call.name());
+            assert!(
+                call == Call::Sheet || bytes <= 65_536,
+                "{}: {bytes}",
+                call.name()
+            );
+        }
+    }
+}

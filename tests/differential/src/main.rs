@@ -47,15 +47,6 @@ fn main() -> ExitCode {
 }
 
 fn run(options: &Options) -> ExitCode {
-    let present = engine::lent::present();
-    if let Some(kind) = options
-        .only
-        .iter()
-        .find(|kind| !present.contains(&kind.name()))
-    {
-        eprintln!("differential: the library has no call {}", kind.name());
-        return ExitCode::from(2);
-    }
     let seed = options.seed;
     let mut harness = Harness::new(&Engine, &options.only);
     if options.coverage {

@@ -3,26 +3,8 @@
 
 use crate::Table;
 
-/// Declares one call of the C interface; where the library has no such call yet, one that panics
-/// stands in its place, so that the calls that are there can be tested.
-macro_rules! declare {
-    ($present:ident, $name:ident($($parameter:ident: $type:ty,)*)) => {
-        #[cfg($present)]
-        extern "C" {
-            fn $name($($parameter: $type,)*) -> i32;
-        }
-
-        #[cfg(not($present))]
-        #[allow(unused_variables, clippy::too_many_arguments)]
-        unsafe fn $name($($parameter: $type,)*) -> i32 {
-            panic!(concat!("the library has no ", stringify!($name)));
-        }
-    };
-}
-
-declare!(
-    has_check,
-    codhungu_check(
+extern "C" {
+    fn codhungu_check(
         plan: *const u8,
         plan_len: usize,
         days: *const i64,
@@ -38,12 +20,9 @@ declare!(
         today: i64,
         answer: *mut i64,
         answer_len: usize,
-    )
-);
+    ) -> i32;
 
-declare!(
-    has_payment,
-    codhungu_payment(
+    fn codhungu_payment(
         plan: *const u8,
         plan_len: usize,
         days: *const i64,
@@ -62,12 +41,9 @@ declare!(
         month: i64,
         answer: *mut i64,
         answer_len: usize,
-    )
-);
+    ) -> i32;
 
-declare!(
-    has_step,
-    codhungu_step(
+    fn codhungu_step(
         plan: *const u8,
         plan_len: usize,
         days: *const i64,
@@ -87,36 +63,27 @@ declare!(
         out_len: usize,
         answer: *mut i64,
         answer_len: usize,
-    )
-);
+    ) -> i32;
 
-declare!(
-    has_compile,
-    codhungu_compile(
+    fn codhungu_compile(
         plan: *const u8,
         plan_len: usize,
         out: *mut u8,
         out_len: usize,
         answer: *mut i64,
         answer_len: usize,
-    )
-);
+    ) -> i32;
 
-declare!(
-    has_cut,
-    codhungu_cut(
+    fn codhungu_cut(
         payoff: *const u8,
         payoff_len: usize,
         out: *mut u8,
         out_len: usize,
         answer: *mut i64,
         answer_len: usize,
-    )
-);
+    ) -> i32;
 
-declare!(
-    has_evaluate,
-    codhungu_evaluate(
+    fn codhungu_evaluate(
         payoff: *const u8,
         payoff_len: usize,
         days: *const i64,
@@ -134,35 +101,16 @@ declare!(
         q: i64,
         answer: *mut i64,
         answer_len: usize,
-    )
-);
+    ) -> i32;
 
-declare!(
-    has_sheet,
-    codhungu_sheet(
+    fn codhungu_sheet(
         input: *const u8,
         input_len: usize,
         out: *mut u8,
         out_len: usize,
         answer: *mut i64,
         answer_len: usize,
-    )
-);
-
-/// The calls that the linked library has.
-pub fn present() -> Vec<&'static str> {
-    let all = [
-        ("check", cfg!(has_check)),
-        ("payment", cfg!(has_payment)),
-        ("step", cfg!(has_step)),
-        ("compile", cfg!(has_compile)),
-        ("cut", cfg!(has_cut)),
-        ("evaluate", cfg!(has_evaluate)),
-        ("sheet", cfg!(has_sheet)),
-    ];
-    all.into_iter()
-        .filter_map(|(call, present)| present.then_some(call))
-        .collect()
+    ) -> i32;
 }
 
 // SAFETY, for every call below: each pointer comes from a slice that lives through the call and is
