@@ -1,8 +1,7 @@
 // What a plan pays a pair in a month, and the month step.
 ghost use mathlib.Core.Path.{_≡_};
 ghost use mathlib.Core.Bool.{_&&_};
-ghost use Prim.Native.Nat.{_≤_};
-ghost use lib.ListN.{length};
+ghost use Prim.Native.Nat.{_<_, _≤_};
 ghost use Rattle.amounts.specs.Fine.{MonthIn};
 ghost use Rattle.amounts.specs.Flat.{flat};
 ghost use Rattle.copies.specs.Appended.{Appended};
@@ -26,7 +25,7 @@ ghost use Rattle.rules.specs.Answers.{givenOf};
 ghost use Rattle.rules.specs.Standing.{Standing, Stands};
 ghost use Rattle.steps.specs.Ready.{Ready};
 ghost use Rattle.tables.specs.Lookup.{readTable};
-ghost use Rattle.text.specs.Room.{Roomy};
+ghost use Rattle.text.specs.Room.{Roomy, lettersIn};
 use integers::Month;
 use integers::Pence;
 use pays::Pair;
@@ -146,7 +145,37 @@ fn payment_in(
     }
 }
 
-// A text of few bytes has few nodes, and a short table is cleared sooner: 48 rows, 96, 192 or all 512.
+// A text of few letters has few nodes, and a short table is cleared sooner: 24 rows, 48, 96, 192 or all 512.
+fn tiny_payment(
+    text: &[u8],
+    days: &[i64],
+    span: Span,
+    factors: &[i64],
+    bounds: &[i64],
+    values: &[i64],
+    today: Month,
+    pair: Pair,
+    month: Month,
+) -> Paying
+    requires { ⌜ lettersIn (now text) < 24 ⌝ }
+    ensures { λ r. ⌜ payingAnswer r ≡ paymentCall (now (text .entry))
+        (givenOf (now (days .entry)) (span .h) (span .f) (now (factors .entry)) (now (bounds .entry)) (now (values .entry))) (today .0) (pair .p) (pair .q) (month .0) ⌝ }
+{
+    let mut nodes = [0i64; 120];
+    payment_in(
+        text,
+        &mut nodes,
+        days,
+        span,
+        factors,
+        bounds,
+        values,
+        today,
+        pair,
+        month,
+    )
+}
+
 fn small_payment(
     text: &[u8],
     days: &[i64],
@@ -158,7 +187,7 @@ fn small_payment(
     pair: Pair,
     month: Month,
 ) -> Paying
-    requires { ⌜ length (now text) ≤ 96 ⌝ }
+    requires { ⌜ lettersIn (now text) < 48 ⌝ }
     ensures { λ r. ⌜ payingAnswer r ≡ paymentCall (now (text .entry))
         (givenOf (now (days .entry)) (span .h) (span .f) (now (factors .entry)) (now (bounds .entry)) (now (values .entry))) (today .0) (pair .p) (pair .q) (month .0) ⌝ }
 {
@@ -188,7 +217,7 @@ fn brief_payment(
     pair: Pair,
     month: Month,
 ) -> Paying
-    requires { ⌜ length (now text) ≤ 192 ⌝ }
+    requires { ⌜ lettersIn (now text) < 96 ⌝ }
     ensures { λ r. ⌜ payingAnswer r ≡ paymentCall (now (text .entry))
         (givenOf (now (days .entry)) (span .h) (span .f) (now (factors .entry)) (now (bounds .entry)) (now (values .entry))) (today .0) (pair .p) (pair .q) (month .0) ⌝ }
 {
@@ -218,7 +247,7 @@ fn short_payment(
     pair: Pair,
     month: Month,
 ) -> Paying
-    requires { ⌜ length (now text) ≤ 384 ⌝ }
+    requires { ⌜ lettersIn (now text) < 192 ⌝ }
     ensures { λ r. ⌜ payingAnswer r ≡ paymentCall (now (text .entry))
         (givenOf (now (days .entry)) (span .h) (span .f) (now (factors .entry)) (now (bounds .entry)) (now (values .entry))) (today .0) (pair .p) (pair .q) (month .0) ⌝ }
 {
@@ -285,7 +314,21 @@ pub fn payment(
 {
     let span = Span { h: h, f: f };
     let pair = Pair { p: p, q: q };
-    if text.len() <= 96 {
+    let letters = text::room::letters_at_most(text);
+    if letters < 24 {
+        return tiny_payment(
+            text,
+            days,
+            span,
+            factors,
+            bounds,
+            values,
+            Month(today),
+            pair,
+            Month(month),
+        );
+    }
+    if letters < 48 {
         return small_payment(
             text,
             days,
@@ -298,7 +341,7 @@ pub fn payment(
             Month(month),
         );
     }
-    if text.len() <= 192 {
+    if letters < 96 {
         return brief_payment(
             text,
             days,
@@ -311,7 +354,7 @@ pub fn payment(
             Month(month),
         );
     }
-    if text.len() <= 384 {
+    if letters < 192 {
         return short_payment(
             text,
             days,
@@ -463,6 +506,38 @@ fn step_in(
     }
 }
 
+fn tiny_step(
+    text: &[u8],
+    days: &[i64],
+    span: Span,
+    factors: &[i64],
+    bounds: &[i64],
+    values: &[i64],
+    today: Month,
+    pair: Pair,
+    out: &mut [u8],
+) -> Stepping
+    requires { ⌜ lettersIn (now text) < 24 ⌝ }
+    ensures { λ r. ⌜ (now (out .exit) ≡ stepCall (now (text .entry))
+        (givenOf (now (days .entry)) (span .h) (span .f) (now (factors .entry)) (now (bounds .entry)) (now (values .entry))) (today .0) (pair .p) (pair .q) (now (out .entry)) .buffer)
+        × (steppingAnswer r ≡ stepCall (now (text .entry))
+        (givenOf (now (days .entry)) (span .h) (span .f) (now (factors .entry)) (now (bounds .entry)) (now (values .entry))) (today .0) (pair .p) (pair .q) (now (out .entry)) .answer) ⌝ }
+{
+    let mut table = [0i64; 120];
+    step_in(
+        text,
+        &mut table,
+        days,
+        span,
+        factors,
+        bounds,
+        values,
+        today,
+        pair,
+        out,
+    )
+}
+
 fn small_step(
     text: &[u8],
     days: &[i64],
@@ -474,7 +549,7 @@ fn small_step(
     pair: Pair,
     out: &mut [u8],
 ) -> Stepping
-    requires { ⌜ length (now text) ≤ 96 ⌝ }
+    requires { ⌜ lettersIn (now text) < 48 ⌝ }
     ensures { λ r. ⌜ (now (out .exit) ≡ stepCall (now (text .entry))
         (givenOf (now (days .entry)) (span .h) (span .f) (now (factors .entry)) (now (bounds .entry)) (now (values .entry))) (today .0) (pair .p) (pair .q) (now (out .entry)) .buffer)
         × (steppingAnswer r ≡ stepCall (now (text .entry))
@@ -506,7 +581,7 @@ fn brief_step(
     pair: Pair,
     out: &mut [u8],
 ) -> Stepping
-    requires { ⌜ length (now text) ≤ 192 ⌝ }
+    requires { ⌜ lettersIn (now text) < 96 ⌝ }
     ensures { λ r. ⌜ (now (out .exit) ≡ stepCall (now (text .entry))
         (givenOf (now (days .entry)) (span .h) (span .f) (now (factors .entry)) (now (bounds .entry)) (now (values .entry))) (today .0) (pair .p) (pair .q) (now (out .entry)) .buffer)
         × (steppingAnswer r ≡ stepCall (now (text .entry))
@@ -538,7 +613,7 @@ fn short_step(
     pair: Pair,
     out: &mut [u8],
 ) -> Stepping
-    requires { ⌜ length (now text) ≤ 384 ⌝ }
+    requires { ⌜ lettersIn (now text) < 192 ⌝ }
     ensures { λ r. ⌜ (now (out .exit) ≡ stepCall (now (text .entry))
         (givenOf (now (days .entry)) (span .h) (span .f) (now (factors .entry)) (now (bounds .entry)) (now (values .entry))) (today .0) (pair .p) (pair .q) (now (out .entry)) .buffer)
         × (steppingAnswer r ≡ stepCall (now (text .entry))
@@ -613,7 +688,21 @@ pub fn step(
 {
     let span = Span { h: h, f: f };
     let parties = Pair { p: p, q: q };
-    if text.len() <= 96 {
+    let letters = text::room::letters_at_most(text);
+    if letters < 24 {
+        return tiny_step(
+            text,
+            days,
+            span,
+            factors,
+            bounds,
+            values,
+            Month(today),
+            parties,
+            out,
+        );
+    }
+    if letters < 48 {
         return small_step(
             text,
             days,
@@ -626,7 +715,7 @@ pub fn step(
             out,
         );
     }
-    if text.len() <= 192 {
+    if letters < 96 {
         return brief_step(
             text,
             days,
@@ -639,7 +728,7 @@ pub fn step(
             out,
         );
     }
-    if text.len() <= 384 {
+    if letters < 192 {
         return short_step(
             text,
             days,

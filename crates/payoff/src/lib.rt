@@ -1,8 +1,8 @@
 // Payoffs: compiling, cutting and evaluating.
 ghost use mathlib.Core.Path.{_≡_};
-ghost use Prim.Native.Nat.{_≤_};
-ghost use lib.ListN.{drop, length};
-ghost use mathlib.Core.Bool.{_&&_, _||_, false};
+ghost use Prim.Native.Nat.{_<_, _≤_};
+ghost use lib.ListN.{length};
+ghost use mathlib.Core.Bool.{_&&_, false};
 ghost use mathlib.Core.List.{map};
 ghost use lib.Dec.{T};
 ghost use lib.IntN.{pos};
@@ -21,7 +21,7 @@ ghost use Rattle.payoff.specs.Evaluating.{EvaluateIs, Stands, evaluating
 ghost use Rattle.pays.specs.Parties.{PairIn};
 ghost use Rattle.settling.specs.Settle.{Settled};
 ghost use Rattle.tables.specs.Given.{tableOf};
-ghost use Rattle.text.specs.Room.{Roomy};
+ghost use Rattle.text.specs.Room.{Roomy, lettersIn};
 ghost use Rattle.worths.specs.Answers.{worthAnswer};
 ghost use Rattle.worths.specs.Checked.{worthIn};
 ghost use Rattle.worths.specs.Ranges.{FieldsIn, Payable};
@@ -114,9 +114,18 @@ fn compile_in(text: &[u8], nodes: &mut [i64], out: &mut [u8]) -> Writing
     }
 }
 
-// A text of few bytes has few nodes, and a short table is cleared sooner: 48 rows, 96, 192 or all 512.
+// A text of few letters has few nodes, and a short table is cleared sooner: 24 rows, 48, 96, 192 or all 512.
+fn tiny_compile(text: &[u8], out: &mut [u8]) -> Writing
+    requires { ⌜ lettersIn (now text) < 24 ⌝ }
+    ensures { λ r. ⌜ (now (out .exit) ≡ compileCall (now (text .entry)) (now (out .entry)) .buffer)
+        × (writingAnswer r ≡ compileCall (now (text .entry)) (now (out .entry)) .answer) ⌝ }
+{
+    let mut nodes = [0i64; 120];
+    compile_in(text, &mut nodes, out)
+}
+
 fn small_compile(text: &[u8], out: &mut [u8]) -> Writing
-    requires { ⌜ length (now text) ≤ 96 ⌝ }
+    requires { ⌜ lettersIn (now text) < 48 ⌝ }
     ensures { λ r. ⌜ (now (out .exit) ≡ compileCall (now (text .entry)) (now (out .entry)) .buffer)
         × (writingAnswer r ≡ compileCall (now (text .entry)) (now (out .entry)) .answer) ⌝ }
 {
@@ -125,7 +134,7 @@ fn small_compile(text: &[u8], out: &mut [u8]) -> Writing
 }
 
 fn brief_compile(text: &[u8], out: &mut [u8]) -> Writing
-    requires { ⌜ length (now text) ≤ 192 ⌝ }
+    requires { ⌜ lettersIn (now text) < 96 ⌝ }
     ensures { λ r. ⌜ (now (out .exit) ≡ compileCall (now (text .entry)) (now (out .entry)) .buffer)
         × (writingAnswer r ≡ compileCall (now (text .entry)) (now (out .entry)) .answer) ⌝ }
 {
@@ -134,7 +143,7 @@ fn brief_compile(text: &[u8], out: &mut [u8]) -> Writing
 }
 
 fn short_compile(text: &[u8], out: &mut [u8]) -> Writing
-    requires { ⌜ length (now text) ≤ 384 ⌝ }
+    requires { ⌜ lettersIn (now text) < 192 ⌝ }
     ensures { λ r. ⌜ (now (out .exit) ≡ compileCall (now (text .entry)) (now (out .entry)) .buffer)
         × (writingAnswer r ≡ compileCall (now (text .entry)) (now (out .entry)) .answer) ⌝ }
 {
@@ -155,13 +164,17 @@ pub fn compile(text: &[u8], out: &mut [u8]) -> Writing
     ensures { λ r. ⌜ (now (out .exit) ≡ compileCall (now (text .entry)) (now (out .entry)) .buffer)
         × (writingAnswer r ≡ compileCall (now (text .entry)) (now (out .entry)) .answer) ⌝ }
 {
-    if text.len() <= 96 {
+    let letters = text::room::letters_at_most(text);
+    if letters < 24 {
+        return tiny_compile(text, out);
+    }
+    if letters < 48 {
         return small_compile(text, out);
     }
-    if text.len() <= 192 {
+    if letters < 96 {
         return brief_compile(text, out);
     }
-    if text.len() <= 384 {
+    if letters < 192 {
         return short_compile(text, out);
     }
     long_compile(text, out)
@@ -299,7 +312,35 @@ fn evaluate_in(
     }
 }
 
-// A text of few bytes has few nodes, and a short table is cleared sooner: 48 rows, 96, 192 or all 512.
+// A text of few letters has few nodes, and a short table is cleared sooner: 24 rows, 48, 96, 192 or all 512.
+fn tiny_evaluate(
+    text: &[u8],
+    days: &[i64],
+    span: Span,
+    factors: &[i64],
+    bounds: &[i64],
+    values: &[i64],
+    month: Month,
+    pair: Pair,
+) -> Evaluating
+    requires { ⌜ lettersIn (now text) < 24 ⌝ }
+    ensures { λ r. ⌜ evaluatingAnswer r ≡ evaluateCall (now (text .entry))
+        (givenOf (now (days .entry)) (span .h) (span .f) (now (factors .entry)) (now (bounds .entry)) (now (values .entry))) (pair .p) (pair .q) (month .0) ⌝ }
+{
+    let mut nodes = [0i64; 120];
+    evaluate_in(
+        text,
+        &mut nodes,
+        days,
+        span,
+        factors,
+        bounds,
+        values,
+        month,
+        pair,
+    )
+}
+
 fn small_evaluate(
     text: &[u8],
     days: &[i64],
@@ -310,7 +351,7 @@ fn small_evaluate(
     month: Month,
     pair: Pair,
 ) -> Evaluating
-    requires { ⌜ length (now text) ≤ 96 ⌝ }
+    requires { ⌜ lettersIn (now text) < 48 ⌝ }
     ensures { λ r. ⌜ evaluatingAnswer r ≡ evaluateCall (now (text .entry))
         (givenOf (now (days .entry)) (span .h) (span .f) (now (factors .entry)) (now (bounds .entry)) (now (values .entry))) (pair .p) (pair .q) (month .0) ⌝ }
 {
@@ -338,7 +379,7 @@ fn brief_evaluate(
     month: Month,
     pair: Pair,
 ) -> Evaluating
-    requires { ⌜ length (now text) ≤ 192 ⌝ }
+    requires { ⌜ lettersIn (now text) < 96 ⌝ }
     ensures { λ r. ⌜ evaluatingAnswer r ≡ evaluateCall (now (text .entry))
         (givenOf (now (days .entry)) (span .h) (span .f) (now (factors .entry)) (now (bounds .entry)) (now (values .entry))) (pair .p) (pair .q) (month .0) ⌝ }
 {
@@ -366,7 +407,7 @@ fn short_evaluate(
     month: Month,
     pair: Pair,
 ) -> Evaluating
-    requires { ⌜ length (now text) ≤ 384 ⌝ }
+    requires { ⌜ lettersIn (now text) < 192 ⌝ }
     ensures { λ r. ⌜ evaluatingAnswer r ≡ evaluateCall (now (text .entry))
         (givenOf (now (days .entry)) (span .h) (span .f) (now (factors .entry)) (now (bounds .entry)) (now (values .entry))) (pair .p) (pair .q) (month .0) ⌝ }
 {
@@ -429,7 +470,20 @@ pub fn evaluate(
 {
     let span = Span { h: h, f: f };
     let pair = Pair { p: p, q: q };
-    if text.len() <= 96 {
+    let letters = text::room::letters_at_most(text);
+    if letters < 24 {
+        return tiny_evaluate(
+            text,
+            days,
+            span,
+            factors,
+            bounds,
+            values,
+            Month(month),
+            pair,
+        );
+    }
+    if letters < 48 {
         return small_evaluate(
             text,
             days,
@@ -441,7 +495,7 @@ pub fn evaluate(
             pair,
         );
     }
-    if text.len() <= 192 {
+    if letters < 96 {
         return brief_evaluate(
             text,
             days,
@@ -453,7 +507,7 @@ pub fn evaluate(
             pair,
         );
     }
-    if text.len() <= 384 {
+    if letters < 192 {
         return short_evaluate(
             text,
             days,

@@ -1,7 +1,6 @@
 // The rules for a plan, in document 01's order.
 ghost use mathlib.Core.Path.{_≡_};
-ghost use Prim.Native.Nat.{_≤_};
-ghost use lib.ListN.{length};
+ghost use Prim.Native.Nat.{_<_};
 ghost use Rattle.language.specs.Calls.{checkCall};
 ghost use Rattle.measures.specs.Ready.{PlanReady};
 ghost use Rattle.nodes.specs.Found.{planAt};
@@ -10,7 +9,7 @@ ghost use Rattle.rules.specs.Accepting.{AcceptIs};
 ghost use Rattle.rules.specs.Answers.{Natural, checkingAnswer, givenOf};
 ghost use Rattle.rules.specs.Measured.{InTable, measuredBy};
 ghost use Rattle.rules.specs.Standing.{Stands};
-ghost use Rattle.text.specs.Room.{Roomy};
+ghost use Rattle.text.specs.Room.{Roomy, lettersIn};
 use integers::Month;
 use integers::Pence;
 use tables::Span;
@@ -137,7 +136,24 @@ fn check_in(
     }
 }
 
-// A text of few bytes has few nodes, and a short table is cleared sooner: 48 rows, 96, 192 or all 512.
+// A text of few letters has few nodes, and a short table is cleared sooner: 24 rows, 48, 96, 192 or all 512.
+fn tiny_check(
+    text: &[u8],
+    days: &[i64],
+    span: Span,
+    factors: &[i64],
+    bounds: &[i64],
+    values: &[i64],
+    today: Month,
+) -> Checking
+    requires { ⌜ lettersIn (now text) < 24 ⌝ }
+    ensures { λ r. ⌜ (checkingAnswer r ≡ checkCall (now (text .entry))
+        (givenOf (now (days .entry)) (span .h) (span .f) (now (factors .entry)) (now (bounds .entry)) (now (values .entry))) (today .0)) × Natural r ⌝ }
+{
+    let mut nodes = [0i64; 120];
+    check_in(text, &mut nodes, days, span, factors, bounds, values, today)
+}
+
 fn small_check(
     text: &[u8],
     days: &[i64],
@@ -147,7 +163,7 @@ fn small_check(
     values: &[i64],
     today: Month,
 ) -> Checking
-    requires { ⌜ length (now text) ≤ 96 ⌝ }
+    requires { ⌜ lettersIn (now text) < 48 ⌝ }
     ensures { λ r. ⌜ (checkingAnswer r ≡ checkCall (now (text .entry))
         (givenOf (now (days .entry)) (span .h) (span .f) (now (factors .entry)) (now (bounds .entry)) (now (values .entry))) (today .0)) × Natural r ⌝ }
 {
@@ -164,7 +180,7 @@ fn brief_check(
     values: &[i64],
     today: Month,
 ) -> Checking
-    requires { ⌜ length (now text) ≤ 192 ⌝ }
+    requires { ⌜ lettersIn (now text) < 96 ⌝ }
     ensures { λ r. ⌜ (checkingAnswer r ≡ checkCall (now (text .entry))
         (givenOf (now (days .entry)) (span .h) (span .f) (now (factors .entry)) (now (bounds .entry)) (now (values .entry))) (today .0)) × Natural r ⌝ }
 {
@@ -181,7 +197,7 @@ fn short_check(
     values: &[i64],
     today: Month,
 ) -> Checking
-    requires { ⌜ length (now text) ≤ 384 ⌝ }
+    requires { ⌜ lettersIn (now text) < 192 ⌝ }
     ensures { λ r. ⌜ (checkingAnswer r ≡ checkCall (now (text .entry))
         (givenOf (now (days .entry)) (span .h) (span .f) (now (factors .entry)) (now (bounds .entry)) (now (values .entry))) (today .0)) × Natural r ⌝ }
 {
@@ -220,13 +236,17 @@ pub fn check(
         (givenOf (now (days .entry)) h f (now (factors .entry)) (now (bounds .entry)) (now (values .entry))) today) × Natural r ⌝ }
 {
     let span = Span { h: h, f: f };
-    if text.len() <= 96 {
+    let letters = text::room::letters_at_most(text);
+    if letters < 24 {
+        return tiny_check(text, days, span, factors, bounds, values, Month(today));
+    }
+    if letters < 48 {
         return small_check(text, days, span, factors, bounds, values, Month(today));
     }
-    if text.len() <= 192 {
+    if letters < 96 {
         return brief_check(text, days, span, factors, bounds, values, Month(today));
     }
-    if text.len() <= 384 {
+    if letters < 192 {
         return short_check(text, days, span, factors, bounds, values, Month(today));
     }
     long_check(text, days, span, factors, bounds, values, Month(today))

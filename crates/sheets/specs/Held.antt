@@ -1,10 +1,10 @@
 -- A sheet that was read into lists that hold its table, or all of a table that keeps the rules.
-use Prim.Native.Nat.{_*_, _+_, _-_, _<_, _≤_, ℕ}
+use Prim.Native.Nat.{_-_, _≤_, ℕ}
 use lib.IntN.{pos, ℤ}
-use lib.ListN.{length, replicate}
+use lib.ListN.{drop, length, replicate, take}
 use mathlib.Core.List.{List}
 use mathlib.Core.Path.{_≡_}
-use Rattle.language.specs.Limits.{maxNodes, sheetBytes}
+use Rattle.language.specs.Limits.{sheetBytes}
 use Rattle.lines.specs.Sheets.{SheetRead}
 use Rattle.language.specs.Sheet.{sheetCall}
 use Rattle.lines.specs.declared.Sheet.{Sheet}
@@ -20,9 +20,9 @@ pub record SheetHeld (input : List ℕ) (days factors bounds values : List ℤ) 
   pub labels : length bounds ≡ 8
   pub places : sheet .values ≤ 5288 → sheet .values ≤ length values
 
--- a lent table has a row for each node that the sheet's plan can have: a node takes a letter and a byte more
-abbrev pub PlanRoom : Sheet → List ℤ → Type 0
-PlanRoom sheet nodes = (n : ℕ) → n < maxNodes → 2 * n < sheet .to - sheet .from → 5 * n + 5 ≤ length nodes
+-- the bytes of the sheet's plan
+abbrev pub planText : List ℕ → Sheet → List ℕ
+planText input sheet = take (sheet .to - sheet .from) (drop (sheet .from) input)
 
 -- a lent list holds a number for each month of a table that keeps the rules
 abbrev pub MonthRoom : Sheet → List ℤ → Type 0

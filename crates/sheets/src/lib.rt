@@ -2,7 +2,7 @@
 ghost use mathlib.Core.Path.{_≡_};
 ghost use mathlib.Core.Bool.{_&&_, _||_};
 ghost use mathlib.Core.List.{List};
-ghost use Prim.Native.Nat.{min, suc, ℕ, _-_, _≤_};
+ghost use Prim.Native.Nat.{min, suc, ℕ, _<_, _≤_};
 ghost use lib.Dec.{leb};
 ghost use lib.IntN.{natAbs, pos};
 ghost use lib.ListN.{length};
@@ -19,9 +19,10 @@ ghost use Rattle.pays.specs.Parties.{PairIn};
 ghost use Rattle.rules.specs.Answers.{givenOf};
 ghost use Rattle.rules.specs.Standing.{Standing, Stands};
 ghost use Rattle.sheets.specs.Answers.{answerInto, refusalInto};
-ghost use Rattle.sheets.specs.Held.{Cleared, MonthRoom, PlanRoom, SheetHeld, TriedIs};
+ghost use Rattle.sheets.specs.Held.{Cleared, MonthRoom, SheetHeld, TriedIs, planText};
 ghost use Rattle.tables.specs.Lookup.{KeptSpan};
 ghost use Rattle.text.specs.Refusals.{numberOf};
+ghost use Rattle.text.specs.Room.{Roomy, lettersIn};
 ghost use Rattle.writer.specs.Answers.{writtenAnswer};
 use columns::remaining;
 use integers::Month;
@@ -138,7 +139,7 @@ fn answer_with(
     values: &[i64],
     out: &mut [u8],
 ) -> Written
-    requires { ⌜ SheetHeld (now input) (now days) (now factors) (now bounds) (now values) sheet × PlanRoom sheet (now nodes) × MonthRoom sheet (now column) × Cleared (now column) × MonthRoom sheet (now rest) ⌝ }
+    requires { ⌜ SheetHeld (now input) (now days) (now factors) (now bounds) (now values) sheet × Roomy (planText (now input) sheet) (now nodes) × MonthRoom sheet (now column) × Cleared (now column) × MonthRoom sheet (now rest) ⌝ }
     ensures { λ r. ⌜ (now (out .exit) ≡ sheetCall (now (input .entry)) (now (out .entry)) .buffer)
         × (writtenAnswer r ≡ sheetCall (now (input .entry)) (now (out .entry)) .answer) ⌝ }
 {
@@ -180,7 +181,7 @@ fn answer_with(
     }
 }
 
-// A plan of few bytes has few nodes, and a short table is cleared sooner: 48 rows, 96, 192 or all 512.
+// A plan of few letters has few nodes, and a short table is cleared sooner: 48 rows, 96, 192 or all 512.
 fn small_answer(
     input: &[u8],
     sheet: Sheet,
@@ -190,7 +191,7 @@ fn small_answer(
     values: &[i64],
     out: &mut [u8],
 ) -> Written
-    requires { ⌜ SheetHeld (now input) (now days) (now factors) (now bounds) (now values) sheet × (sheet .to - sheet .from ≤ 96) × (sheet .factors ≤ 64) ⌝ }
+    requires { ⌜ SheetHeld (now input) (now days) (now factors) (now bounds) (now values) sheet × (lettersIn (planText (now input) sheet) < 48) × (sheet .factors ≤ 64) ⌝ }
     ensures { λ r. ⌜ (now (out .exit) ≡ sheetCall (now (input .entry)) (now (out .entry)) .buffer)
         × (writtenAnswer r ≡ sheetCall (now (input .entry)) (now (out .entry)) .answer) ⌝ }
 {
@@ -220,7 +221,7 @@ fn brief_answer(
     values: &[i64],
     out: &mut [u8],
 ) -> Written
-    requires { ⌜ SheetHeld (now input) (now days) (now factors) (now bounds) (now values) sheet × (sheet .to - sheet .from ≤ 192) × (sheet .factors ≤ 64) ⌝ }
+    requires { ⌜ SheetHeld (now input) (now days) (now factors) (now bounds) (now values) sheet × (lettersIn (planText (now input) sheet) < 96) × (sheet .factors ≤ 64) ⌝ }
     ensures { λ r. ⌜ (now (out .exit) ≡ sheetCall (now (input .entry)) (now (out .entry)) .buffer)
         × (writtenAnswer r ≡ sheetCall (now (input .entry)) (now (out .entry)) .answer) ⌝ }
 {
@@ -250,7 +251,7 @@ fn short_answer(
     values: &[i64],
     out: &mut [u8],
 ) -> Written
-    requires { ⌜ SheetHeld (now input) (now days) (now factors) (now bounds) (now values) sheet × (sheet .to - sheet .from ≤ 384) ⌝ }
+    requires { ⌜ SheetHeld (now input) (now days) (now factors) (now bounds) (now values) sheet × (lettersIn (planText (now input) sheet) < 192) ⌝ }
     ensures { λ r. ⌜ (now (out .exit) ≡ sheetCall (now (input .entry)) (now (out .entry)) .buffer)
         × (writtenAnswer r ≡ sheetCall (now (input .entry)) (now (out .entry)) .answer) ⌝ }
 {
@@ -318,15 +319,16 @@ fn answer_read(
     let from = sheet.from;
     let to = sheet.to;
     let months = sheet.factors;
+    let letters = text::room::letters_at_most(&input[from..to]);
     if months <= 64 {
-        if to - from <= 96 {
+        if letters < 48 {
             return small_answer(input, sheet, days, factors, bounds, values, out);
         }
-        if to - from <= 192 {
+        if letters < 96 {
             return brief_answer(input, sheet, days, factors, bounds, values, out);
         }
     }
-    if to - from <= 384 {
+    if letters < 192 {
         return short_answer(input, sheet, days, factors, bounds, values, out);
     }
     long_answer(input, sheet, days, factors, bounds, values, out)

@@ -1,5 +1,6 @@
 -- Laws of the reader.
 pub mod LetterLaws
+pub mod LetterCounts
 pub mod OpenLaws
 pub mod RowLaws
 pub mod QuickLaws

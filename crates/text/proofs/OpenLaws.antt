@@ -209,6 +209,7 @@ module _ {P : Type 0} (form : Form P) where
                   second = f .second ∙ sym p2;
                   third = f .third ∙ sym p3;
                   fourth = f .fourth ∙ sym p4;
+                  alone = sole;
                   onward = f .all .onward;
                   within = f .all .within;
                   room = room;

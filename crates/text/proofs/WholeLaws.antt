@@ -1,22 +1,24 @@
 -- Laws of the loop over a text: what is known when a row was opened, and when the next one is to be read.
 use Prim.Native.Nat.{_%_, _*_, _+_, _-_, _/_, _<_, _≤_, ℕ}
 use lib.IntN.{pos, ℤ}
-use lib.ListN.{getD, length, length-set, set}
+use lib.ListN.{getD, length, length-set, set, take}
 use lib.Seq.{length-sets}
 use mathlib.Core.List.{List, []}
 use mathlib.Core.Path.{_∙_, _≡_, ap, refl, subst, sym}
 use native.Mathlib.Omega.{arith}
 use Rattle.language.specs.Answer.{refused}
-use Rattle.language.specs.Text.Letters.{Form}
+use Rattle.language.specs.Text.Letters.{Form, Letter, rowOf}
+use Rattle.language.specs.Text.Number.{byte}
 use Rattle.text.specs.Letters.{kindAt}
 use Rattle.text.specs.Refusals.{numberOf}
-use Rattle.text.specs.Room.{Roomy}
+use Rattle.text.specs.Room.{Roomy, lettersIn}
 use Rattle.text.specs.Rows.{RowBegun, RowIs, openRow}
 use Rattle.text.specs.Whole.{Grown, wholeText}
 use Rattle.text.specs.declared.Refusal.{Refusal}
 use Rattle.text.specs.declared.whole.Row.{Row}
 use Rattle.text.specs.declared.whole.Row.the-variants.{Open, Shut}
 use Rattle.text.proofs.Nesting.{AllSized, Going, Kept, closed, held, heldCount, toCome, waits}
+use Rattle.text.proofs.LetterCounts.{letter-more, letters-all}
 use Rattle.text.proofs.NestingLaws.{Waiter, closed-refused, few-waiting, finished, follows-last, follows-waits, inside-last, inside-waits, kind-some, leaf-done, own-before, waiter, waits-few}
 
 -- a table as long as one with room
@@ -30,7 +32,8 @@ module _ {P : Type 0} (form : Form P) (text : List ℕ) where
     pub kind : ℕ
     pub old : List ℤ
     pub size : Roomy text old
-    pub paced : 2 * count ≤ at
+    pub paced : count ≤ lettersIn (take at text)
+    pub capital : (l : Letter P) → byte "A" ≤ rowOf form l .letter
     pub going : Going form text old stack at kind count left waiting
     pub row-is : RowIs form left (kindAt kind) text at old nodes count row
 
@@ -42,7 +45,8 @@ module _ {P : Type 0} (form : Form P) (text : List ℕ) where
     pub within : at ≤ length text + 1
     pub room : count ≤ 512
     pub size : Roomy text nodes
-    pub paced : 2 * count ≤ at
+    pub paced : count ≤ lettersIn (take at text)
+    pub capital : (l : Letter P) → byte "A" ≤ rowOf form l .letter
     pub places : length stack ≡ 32
 
   -- at the root
@@ -68,12 +72,13 @@ module _ {P : Type 0} (form : Form P) (text : List ℕ) where
     row-within : next ≤ length text + 1
     row-within = omega (arith, r .behind, r .begun .within)
 
-    row-paced : 2 * (count + 1) ≤ next
-    row-paced = omega (arith, o .paced, r .begun .onward, r .behind)
+    row-paced : count + 1 ≤ lettersIn (take next text)
+    row-paced =
+        omega (arith, o .paced, letter-more text (o .at) next (r .head .letter) (r .begun .alone) (omega (arith, o .capital (r .begun .sort), r .begun .byte)) (omega (arith, r .begun .onward, r .behind)))
 
     -- the table has its row
     row-place : 5 * count + 5 ≤ length (o .old)
-    row-place = o .size count row-room (omega (arith, o .paced, r .begun .onward, r .begun .within))
+    row-place = o .size count row-room (omega (arith, o .paced, letters-all text (o .at)))
 
     row-length : length nodes ≡ length (o .old)
     row-length = ap length (r .row) ∙ length-sets (o .old) (5 * count) (openRow (r .head))
@@ -134,6 +139,7 @@ module _ {P : Type 0} (form : Form P) (text : List ℕ) where
             room = omega (arith, row-room);
             size = linked-size;
             paced = row-paced;
+            capital = o .capital;
             places = places;
           }
 
@@ -148,6 +154,7 @@ module _ {P : Type 0} (form : Form P) (text : List ℕ) where
             room = omega (arith, row-room);
             size = linked-size;
             paced = row-paced;
+            capital = o .capital;
             places = length-set stack (waiting - 1) v ∙ places;
           }
 
@@ -165,6 +172,7 @@ module _ {P : Type 0} (form : Form P) (text : List ℕ) where
         room = omega (arith, row-room);
         size = row-size;
         paced = row-paced;
+        capital = o .capital;
         places = places;
       }
 
@@ -178,6 +186,7 @@ module _ {P : Type 0} (form : Form P) (text : List ℕ) where
         room = omega (arith, row-room);
         size = row-size;
         paced = row-paced;
+        capital = o .capital;
         places = length-set stack waiting v ∙ places;
       }
 

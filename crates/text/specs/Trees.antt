@@ -1,10 +1,10 @@
 -- What an answer of the code about a node means: a definition's result.
 use Prim.Native.Nat.{_+_, _-_, _<_, _≤_, ℕ}
-use lib.ListN.{length}
+use lib.ListN.{drop, length}
 use mathlib.Core.List.{List, [], _∷_}
 use mathlib.Core.Path.{_≡_}
 use Rattle.fields.specs.Fields.{slotAt}
-use Rattle.fields.specs.Positions.{restAt}
+use Rattle.fields.specs.Positions.{restAt, upTo}
 use Rattle.language.specs.Answer.{refused}
 use Rattle.language.specs.Limits.{maxNodes}
 use Rattle.language.specs.Text.Classes.{Field}
@@ -36,6 +36,7 @@ module _ {P : Type 0} (form : Form P) (left : ℕ) where
     pub second : slotAt values 1 ≡ h .b
     pub third : slotAt values 2 ≡ h .c
     pub fourth : slotAt values 3 ≡ h .d
+    pub alone : upTo 44 (drop at text) ≡ h .letter ∷ []
     pub onward : at + 2 ≤ h .next
     pub within : h .next ≤ length text + 1
     pub room : count < maxNodes

@@ -1,11 +1,11 @@
 // A text's first node and its last, which have no quick way of their own: a letter without fields, and a transfer at a plan's end, are opened
 // without the letter table.
 ghost use Prim.Native.Nat.{_+_, _*_, _<_, _≤_};
-ghost use lib.ListN.{length};
+ghost use lib.ListN.{length, take};
 ghost use Rattle.language.specs.Text.Letters.{planForm};
 ghost use Rattle.text.specs.Letters.{formOf, kindAt};
 ghost use Rattle.text.specs.Packed.{rowOf};
-ghost use Rattle.text.specs.Room.{Roomy};
+ghost use Rattle.text.specs.Room.{Roomy, lettersIn};
 ghost use Rattle.text.specs.Rows.{QuickIs, RowIs};
 use crate::letters::ROOT;
 use crate::letters::TextForm;
@@ -77,7 +77,7 @@ pub fn open_general(
     count: usize,
     left: usize,
 ) -> usize
-    requires { ⌜ (at ≤ length (now text) + 1) × (length (now text) ≤ 53760) × Roomy (now text) (now nodes) × (2 * count ≤ at) × (0 < kind) × (kind ≤ 3) ⌝ }
+    requires { ⌜ (at ≤ length (now text) + 1) × (length (now text) ≤ 53760) × Roomy (now text) (now nodes) × (count ≤ lettersIn (take at (now text))) × (0 < kind) × (kind ≤ 3) ⌝ }
     ensures { λ r. ⌜ RowIs (formOf form) left (kindAt kind) (now (text .entry)) at (now (nodes .entry)) (now (nodes .exit)) count (rowOf r) ⌝ }
 {
     if at < text.len() {

@@ -12,6 +12,7 @@ mod edges;
 mod letters;
 pub mod opens;
 mod quick;
+pub mod room;
 mod trees;
 mod whole;
 

@@ -3,12 +3,12 @@ ghost use mathlib.Core.Path.{_≡_};
 ghost use mathlib.Core.List.{_∷_, []};
 ghost use Prim.Native.Nat.{_+_, _*_, _≤_, _<_};
 ghost use lib.IntN.{pos};
-ghost use lib.ListN.{length, drop};
+ghost use lib.ListN.{length, drop, take};
 ghost use lib.Seq.{sets};
 ghost use Rattle.fields.specs.Positions.{upTo};
 ghost use Rattle.text.specs.Letters.{formOf, kindAt};
 ghost use Rattle.text.specs.Packed.{rowOf};
-ghost use Rattle.text.specs.Room.{Roomy};
+ghost use Rattle.text.specs.Room.{Roomy, lettersIn};
 ghost use Rattle.text.specs.Rows.{RowIs, kidsOf, openRow};
 ghost use Rattle.text.specs.Trees.{OpenedIs, SoleIs};
 ghost use Rattle.text.specs.declared.whole.Row.the-variants.{Open};
@@ -160,7 +160,7 @@ pub fn open_by_table(
     count: usize,
     left: usize,
 ) -> usize
-    requires { ⌜ (at ≤ length (now text) + 1) × (length (now text) ≤ 53760) × Roomy (now text) (now nodes) × (2 * count ≤ at) × (0 < kind) × (kind ≤ 3) ⌝ }
+    requires { ⌜ (at ≤ length (now text) + 1) × (length (now text) ≤ 53760) × Roomy (now text) (now nodes) × (count ≤ lettersIn (take at (now text))) × (0 < kind) × (kind ≤ 3) ⌝ }
     ensures { λ r. ⌜ RowIs (formOf form) left (kindAt kind) (now (text .entry)) at (now (nodes .entry)) (now (nodes .exit)) count (rowOf r) ⌝ }
 {
     match open_any(form, text, at, kind, count, left) {

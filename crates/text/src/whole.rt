@@ -2,10 +2,10 @@
 ghost use mathlib.Core.Path.{_≡_};
 ghost use Prim.Native.Nat.{_+_, _-_, _*_, _<_, _≤_};
 ghost use lib.IntN.{pos};
-ghost use lib.ListN.{length, set};
+ghost use lib.ListN.{length, set, take};
 ghost use Rattle.text.specs.Letters.{formOf, kindAt};
 ghost use Rattle.text.specs.Packed.{refusalOf, rowOf};
-ghost use Rattle.text.specs.Room.{Roomy};
+ghost use Rattle.text.specs.Room.{Roomy, lettersIn};
 ghost use Rattle.text.specs.Rows.{RowIs};
 ghost use Rattle.text.specs.Whole.{ReadIs};
 use crate::Refusal;
@@ -77,7 +77,7 @@ fn open_row(
     count: usize,
     left: usize,
 ) -> Row
-    requires { ⌜ (at ≤ length (now text) + 1) × (length (now text) ≤ 53760) × Roomy (now text) (now nodes) × (2 * count ≤ at) × (0 < kind) × (kind ≤ 3) ⌝ }
+    requires { ⌜ (at ≤ length (now text) + 1) × (length (now text) ≤ 53760) × Roomy (now text) (now nodes) × (count ≤ lettersIn (take at (now text))) × (0 < kind) × (kind ≤ 3) ⌝ }
     ensures { λ r. ⌜ RowIs (formOf form) left (kindAt kind) (now (text .entry)) at (now (nodes .entry)) (now (nodes .exit)) count r ⌝ }
 {
     if count < MAX_NODES {

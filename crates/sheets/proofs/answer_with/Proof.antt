@@ -1,6 +1,6 @@
 use Prim.Native.Nat.{_-_}
 use borrow.Author.Needs.{needs}
-use lib.ListN.{drop, length-drop, take}
+use lib.ListN.{drop, take}
 use lib.Seq.{length-take-le}
 use mathlib.Core.Path.{_∙_, ap, subst, sym}
 use mir.Facts.{toZ-ofZ}
@@ -42,12 +42,7 @@ part-read-plan-end c =
     search needs
 
 read-plan-requires : tie.Need-read-plan-requires
-read-plan-requires c κs =
-    let s = c .before .before .before .before in
-    let a = s .args in
-    let h = plan-part (s .pre .0) in
-    let e = length-take-le (a .sheet .to - a .sheet .from) (drop (a .sheet .from) (a .input .now)) (omega (arith, h .0, h .1, length-drop (a .sheet .from) (a .input .now))) in
-    λ n few b. s .pre .1 n few (omega (arith, b, e))
+read-plan-requires c κs = c .before .before .before .before .pre .1
 
 part-answer-end : tie.Need-part-answer-end
 part-answer-end c =

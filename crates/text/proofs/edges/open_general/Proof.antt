@@ -5,6 +5,7 @@ use mathlib.Core.List.{List}
 use mathlib.Core.Logic.{⊎-elim}
 use mathlib.Core.Path.{_∙_, _≡_, ap, subst, sym}
 use native.Mathlib.Omega.{arith}
+use Rattle.text.proofs.LetterCounts.{letters-all}
 use Rattle.text.specs.Letters.{formOf, kindAt}
 use Rattle.text.specs.Packed.{rowOf}
 use Rattle.text.specs.Room.{Roomy}
@@ -16,7 +17,7 @@ use Rattle.text.proofs.edges.open_general.Tie as tie
 edge-row-requires : tie.Need-edge-row-requires
 edge-row-requires c κs =
     let p = c .before .before .before .before .before .pre in
-    (p .1, c .before .before .before .if1 .taken, p .2 _ (c .before .before .if2 .taken) (omega (arith, p .3, c .before .before .before .if1 .taken)), p .4)
+    (p .1, c .before .before .before .if1 .taken, p .2 _ (c .before .before .if2 .taken) (omega (arith, p .3, letters-all (c .before .before .before .before .before .args .text .now) (c .before .before .before .before .before .args .at))), p .4)
 
 enum-known-next : tie.Need-enum-known-next
 enum-known-next c = search needs

@@ -1,6 +1,7 @@
 use borrow.Author.Needs.{needs}
 use mathlib.Core.Path.{_∙_, ap, refl, subst, sym}
 use native.Mathlib.Omega.{arith}
+use Rattle.text.proofs.LetterCounts.{letters-all}
 use Rattle.text.specs.Letters.{formOf, kindAt}
 use Rattle.text.specs.Packed.{rowOf}
 use Rattle.text.specs.Rows.{RowIs}
@@ -19,7 +20,7 @@ put-opened-requires : tie.Need-put-opened-requires
 put-opened-requires c κs =
     let p = c .before .before .before .before .before .before .pre in
     let b = subst (OpenedIs _ _ _ _ _ _) (c .before .before .h .given .1) (c .before .before .before .before .open-any .ensures) in
-    p .2 _ (b .room) (omega (arith, p .3, b .onward, b .within))
+    p .2 _ (b .room) (omega (arith, p .3, letters-all (c .before .before .before .before .before .before .args .text .now) (c .before .before .before .before .before .before .args .at)))
 
 number-for-requires : tie.Need-number-for-requires
 number-for-requires c κs =

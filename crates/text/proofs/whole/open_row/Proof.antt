@@ -5,6 +5,7 @@ use mathlib.Core.List.{List}
 use mathlib.Core.Logic.{⊎-elim}
 use mathlib.Core.Path.{_∙_, _≡_, ap, subst, sym}
 use native.Mathlib.Omega.{arith}
+use Rattle.text.proofs.LetterCounts.{letters-all}
 use Rattle.text.specs.Letters.{formOf, kindAt}
 use Rattle.text.specs.Room.{Roomy}
 use Rattle.text.specs.Rows.{QuickIs, RowIs}
@@ -18,7 +19,7 @@ quick-row-requires : tie.Need-quick-row-requires
 quick-row-requires c κs =
     let p = c .before .before .before .before .before .before .pre in
     let q = c .before .before .stands-at .ensures (c .before .if3 .taken) in
-    (q .0, q .1, p .2 _ (c .before .before .before .before .if1 .taken) (omega (arith, p .3, q .0)), p .4)
+    (q .0, q .1, p .2 _ (c .before .before .before .before .if1 .taken) (omega (arith, p .3, letters-all (c .before .before .before .before .before .before .args .text .now) (c .before .before .before .before .before .before .args .at))), p .4)
 
 enum-known-next : tie.Need-enum-known-next
 enum-known-next c = search needs

@@ -4,6 +4,7 @@ use lib.ListN.{length}
 use mathlib.Core.Logic.{⊎-elim}
 use mathlib.Core.Path.{_∙_, _≡_, ap, refl, subst, sym}
 use native.Mathlib.Omega.{arith}
+use Rattle.text.proofs.LetterCounts.{capitals}
 use Rattle.text.specs.Letters.{formOf, kindAt}
 use Rattle.text.specs.Rows.{RowIs}
 use Rattle.text.proofs.WholeLaws.{Opening, Ready, few-left, leaf-finished, leaf-own, leaf-places, places-left, ready-as, ready-last, ready-more, ready-one, ready-third, row-fits, row-level, row-room, shut, start}
@@ -40,6 +41,7 @@ loop-holds c =
         old = a .nodes .now;
         size = c .before .before .before .before .before .pre .1;
         paced = omega arith;
+        capital = capitals (a .form);
         going = start (formOf (a .form)) (a .text .now) (a .nodes .now) _;
         row-is = subst (RowIs (formOf (a .form)) 32 (kindAt 1) (a .text .now) 0 (a .nodes .now) (c .before .before .open-general .last .1 .1 .1 .1 .0) 0) (sym (c .row-of .ensures)) (c .before .before .open-general .ensures);
       },
@@ -237,7 +239,7 @@ loop-again c =
     let r = ready (c .before .before .before) in (
       c .before .open-row .kept .1 .1 .1 .1 .0 ∙ same ∙ l .inv .0,
       r .places,
-      record { at = c .before .before .before .before .before .row .given .0 .0; kind = c .before .before .before .if1 .kind; old = c .before .before .before .if1 .nodes; size = r .size; paced = r .paced; going = r .going; row-is = c .before .open-row .ensures },
+      record { at = c .before .before .before .before .before .row .given .0 .0; kind = c .before .before .before .if1 .kind; old = c .before .before .before .if1 .nodes; size = r .size; paced = r .paced; capital = r .capital; going = r .going; row-is = c .before .open-row .ensures },
     )
 
 enum-known-row-2 : tie.Need-enum-known-row-2 Inv-loop μ-loop
