@@ -1,8 +1,8 @@
 // The fields of a node as up to four numbers: a month takes two of them.
 ghost use mathlib.Core.Path.{_≡_};
 ghost use mathlib.Core.List.{_∷_, []};
-ghost use Prim.Native.Nat.{_+_, _≤_};
-ghost use lib.ListN.{length};
+ghost use Prim.Native.Nat.{_+_, _<_, _≤_};
+ghost use lib.ListN.{getD, length};
 ghost use Rattle.language.specs.Text.Letters.{delay, divisor, figure, month};
 ghost use Rattle.fields.specs.Classes.{classOf};
 ghost use Rattle.fields.specs.Fields.{MonthIs, MonthTried, PairIs, SlotsAre, SlotsTried, classesOfTwo, classesOfThree};
@@ -23,6 +23,7 @@ use crate::numbers::figure_at;
 use crate::numbers::read_number;
 use crate::numbers::short_number;
 use crate::settings::quick_settings;
+use crate::settings::read_setting;
 
 pub enum Taking2 {
     Values { a: i64, b: i64, next: usize },
@@ -222,7 +223,24 @@ pub fn read_one(text: &[u8], at: usize, class: u8) -> Slots
     }
 }
 
-// A delay: most have one digit.
+// A setting as a delay; anything else that begins with a `P` is tried again.
+fn quick_setting(text: &[u8], at: usize) -> Slots
+    requires { ⌜ (at < length (now text)) × (getD (now text) at 0 ≡ 80) ⌝ }
+    ensures { λ r. ⌜ SlotsTried (delay ∷ []) (now (text .entry)) at r ⌝ }
+{
+    match read_setting(text, at) {
+        Taking::Value { value: a, next } => Slots::Filled {
+            a,
+            b: 0,
+            c: 0,
+            d: 0,
+            next,
+        },
+        Taking::Wrong => Slots::Unfilled,
+    }
+}
+
+// A delay: most have one digit, and many others are a setting.
 pub fn quick_delay(text: &[u8], at: usize) -> Slots
     requires { ⌜ at + 2 ≤ length (now text) ⌝ }
     ensures { λ r. ⌜ SlotsTried (delay ∷ []) (now (text .entry)) at r ⌝ }
@@ -235,7 +253,12 @@ pub fn quick_delay(text: &[u8], at: usize) -> Slots
             d: 0,
             next,
         },
-        Taking::Wrong => read_one(text, at, DELAY),
+        Taking::Wrong => {
+            if text[at] == b'P' {
+                return quick_setting(text, at);
+            }
+            read_one(text, at, DELAY)
+        }
     }
 }
 

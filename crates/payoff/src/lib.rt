@@ -21,6 +21,7 @@ ghost use Rattle.payoff.specs.Evaluating.{EvaluateIs, Stands, evaluating
 ghost use Rattle.pays.specs.Parties.{PairIn};
 ghost use Rattle.settling.specs.Settle.{Settled};
 ghost use Rattle.tables.specs.Given.{tableOf};
+ghost use Rattle.text.specs.Opens.{opens};
 ghost use Rattle.text.specs.Room.{Roomy, lettersIn};
 ghost use Rattle.worths.specs.Answers.{worthAnswer};
 ghost use Rattle.worths.specs.Checked.{worthIn};
@@ -278,6 +279,16 @@ pub fn evaluate_nodes(
     }
 }
 
+// Whether a payoff may use a setting: whoever lends some is taken at their word, and only without any is the text looked through.
+fn may_use(text: &[u8], days: &[i64]) -> bool
+    ensures { λ r. ⌜ (r ≡ false → opens (now (text .entry)) ≡ false) ⌝ }
+{
+    if 0 < days.len() {
+        return true;
+    }
+    text::opens::has_open(text)
+}
+
 // The call evaluate with a table lent for the text's nodes.
 fn evaluate_in(
     text: &[u8],
@@ -306,7 +317,7 @@ fn evaluate_in(
             values,
             month,
             pair,
-            text::opens::has_open(text),
+            may_use(text, days),
         ),
         Reading::Refused(refusal) => Evaluating::Refused(refusal),
     }

@@ -1,4 +1,4 @@
-use mathlib.Core.Path.{_∙_, subst, sym}
+use mathlib.Core.Path.{subst}
 use Rattle.language.specs.Text.Letters.{payoffForm}
 use Rattle.language.specs.Text.Reader.{readText}
 use Rattle.payoff.proofs.Evaluations.{evaluate-is, evaluate-refuses, read-settled, read-stands}
@@ -14,15 +14,15 @@ read-payoff-requires c κs = search needs
 enum-known-reading : tie.Need-enum-known-reading
 enum-known-reading c = search needs
 
-has-open-requires : tie.Need-has-open-requires
-has-open-requires c κs = search needs
+may-use-requires : tie.Need-may-use-requires
+may-use-requires c κs = search needs
 
 evaluate-nodes-requires : tie.Need-evaluate-nodes-requires
 evaluate-nodes-requires c κs =
     let a = c .before .before .before .before .before .before .before .before .before .args in
     let r = c .before .before .before .before .before .before .read-payoff in
     let u = subst (ReadInto payoffForm (readText payoffForm (a .text .now)) (r .last .1 .0)) (c .before .before .before .reading .given .1) (r .ensures .0) in
-    (read-stands (a .text .now) _ _ u, λ e. read-settled (a .text .now) _ _ u (sym (c .has-open .ensures) ∙ e))
+    (read-stands (a .text .now) _ _ u, λ e. read-settled (a .text .now) _ _ u (c .may-use .ensures e))
 
 enum-known-reading-2 : tie.Need-enum-known-reading-2
 enum-known-reading-2 c = search needs
@@ -51,7 +51,7 @@ evaluate-in-spec =
     (tie.spec
     read-payoff-requires
     enum-known-reading
-    has-open-requires
+    may-use-requires
     evaluate-nodes-requires
     enum-known-reading-2
     same-length
