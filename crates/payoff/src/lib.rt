@@ -35,6 +35,7 @@ use tables::fill::Filling;
 use text::Reading;
 use text::Refusal;
 use worths::answers::Worth;
+use worths::coded;
 use worths::payoffs;
 use writer::Written;
 
@@ -219,9 +220,9 @@ fn worth_of(
     ensures { λ r. ⌜ worthAnswer r ≡ worthIn (tableOf (span .h) (span .f) (now (factors .entry)) (now (bounds .entry)) (now (values .entry))) (pair .p) (pair .q) (natOf (month .0))
         (payoffAt natOf offsetOf 32 (now (nodes .entry)) 0) 0 ⌝ }
 {
-    payoffs::payoff_worth(
+    coded::worth(payoffs::payoff_code(
         &nodes,
-        factors,
+        &factors,
         &values,
         &bounds,
         Month(span.h),
@@ -231,7 +232,7 @@ fn worth_of(
         pair,
         0,
         32,
-    )
+    ))
 }
 
 // A payoff that was read: 9, 12, 8, then its value. Its open settings, where it uses any, are filled in the table.

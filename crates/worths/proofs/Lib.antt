@@ -1,7 +1,9 @@
 -- Laws of evaluation.
 pub mod Bounds
+pub mod Codes
 pub mod FourWaits
 pub mod LeafLaws
+pub mod Refusals
 pub mod WaitLoop
 pub mod WorthArms
 pub mod WorthNodes

@@ -8,6 +8,7 @@ use mathlib.Core.List.{List}
 use mathlib.Core.Path.{_∙_, _≡_, ap, ap₂, refl, sym}
 use native.Mathlib.Omega.{arith}
 use Rattle.checked.specs.Checked.{testIn, valueIn}
+use Rattle.integers.specs.Bounded.{SmallValue}
 use Rattle.language.specs.Answer.{Answer, _>>=_, got, onBoth, refused}
 use Rattle.language.specs.Calls.{factorsOf, lookupOf, rangesOf, signOf}
 use Rattle.language.specs.Limits.{maxAmount, maxNodes, maxValue}
@@ -21,10 +22,11 @@ use Rattle.nodes.specs.Table.{linkAt, natOf, slotAt}
 use Rattle.nodes.specs.declared.PayoffLetter.{PayoffLetter}
 use Rattle.nodes.specs.declared.PayoffLetter.the-variants as letter
 use Rattle.tables.specs.Given.{tableOf}
-use Rattle.worths.proofs.Bounds.{worth-small}
+use Rattle.worths.proofs.Bounds.{worth-codable, worth-small}
 use Rattle.worths.proofs.WorthNodes.{PayoffNode, payoffOf}
 use Rattle.worths.specs.Answers.{SmallWorth, worthAnswer}
 use Rattle.worths.specs.Checked.{worthIn}
+use Rattle.worths.specs.Coded.{Evaluated}
 use Rattle.worths.specs.Leaf.{leafIn}
 use Rattle.worths.specs.declared.answers.Worth.{Worth}
 
@@ -46,8 +48,11 @@ module _ (h f : ℤ) (factors bounds values : List ℤ) (p q : ℤ) where
   pub part-small : (x : Payoff ℕ ℤ) (start w : ℕ) (v : Worth) → worthAnswer v ≡ worthIn table p q start x w → SmallWorth v
   part-small x start w v e = worth-small (rangesOf table) (lookupOf table) (factorsOf table) (signOf p q) start refl x w v e
 
+  pub part-codable : (x : Payoff ℕ ℤ) (start w : ℕ) {a : Answer ℤ} → a ≡ worthIn table p q start x w → Evaluated SmallValue a
+  part-codable x start w e = worth-codable (rangesOf table) (lookupOf table) (factorsOf table) (signOf p q) start refl x w e
+
   module _ (nodes : List ℤ) (start w left at : ℕ) where
-    abbrev whole : Answer ℤ
+    abbrev pub whole : Answer ℤ
     whole = worthIn table p q start (payoffAt natOf offsetOf left nodes at) w
 
     -- the part at place k, with j months waited

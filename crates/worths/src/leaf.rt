@@ -47,15 +47,15 @@ pub fn earlier(m: Month, n: Month) -> bool
 // A month outside 0 to f is 11, also where the leaf is worth 0; before month `start` the leaf is worth 0.
 pub fn leaf_worth(
     nodes: &&[i64],
-    factors: &[i64],
+    factors: &&[i64],
     f: Month,
     waited: Month,
     start: Month,
     pair: Pair,
     at: usize,
 ) -> Worth
-    requires { ⌜ RowIn (now (now nodes)) at × Payable (f .0) (now factors) × Waited (waited .0) × PairIn (pair .p) (pair .q) × Near (slotAt (now (now nodes)) at 1) ⌝ }
-    ensures { λ r. ⌜ worthAnswer r ≡ leafIn (f .0) (now (factors .entry)) (start .0) (slotAt (now (now (nodes .entry))) at 1 +ℤ pos (natOf (waited .0)))
+    requires { ⌜ RowIn (now (now nodes)) at × Payable (f .0) (now (now factors)) × Waited (waited .0) × PairIn (pair .p) (pair .q) × Near (slotAt (now (now nodes)) at 1) ⌝ }
+    ensures { λ r. ⌜ worthAnswer r ≡ leafIn (f .0) (now (now (factors .entry))) (start .0) (slotAt (now (now (nodes .entry))) at 1 +ℤ pos (natOf (waited .0)))
         (signOf (pair .p) (pair .q) (natOf (slotAt (now (now (nodes .entry))) at 3)) (natOf (slotAt (now (now (nodes .entry))) at 4))) ⌝ }
 {
     let month = integers::later(rows::month_at(nodes, at, 1), waited);
@@ -64,7 +64,7 @@ pub fn leaf_worth(
             return Worth::Value(Millionths(0));
         }
         let sign = penny(nodes, at, pair);
-        let value = integers::value_times(sign, factor(factors, month));
+        let value = integers::value_times(sign, factor(*factors, month));
         return Worth::Value(value);
     }
     Worth::Refused(Refusal::Reads)

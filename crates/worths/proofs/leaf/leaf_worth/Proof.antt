@@ -32,37 +32,37 @@ returns c =
     let e = leaf.code-month (c .before .before .before .before .before .before .later .ensures) (c .before .before .before .before .before .before .before .month-at .ensures) (s .pre .2) in
     let fm = leaf.month-fits e (s .pre .4) (s .pre .2) in
     let b = leaf.month-tested ff fm e (c .before .before .before .month-ok .ensures) (c .before .before .if1 .taken) in
-    leaf.cut-off (a .f .0) (a .factors .now) (s .pre .1) (a .start .0) _ _ b (ap (λ z. ltZ z (a .start .0)) (sym e) ∙ sym (c .before .earlier .ensures) ∙ c .if2 .taken)
+    leaf.cut-off (a .f .0) (a .factors .now .now) (s .pre .1) (a .start .0) _ _ b (ap (λ z. ltZ z (a .start .0)) (sym e) ∙ sym (c .before .earlier .ensures) ∙ c .if2 .taken)
 
 penny-requires : tie.Need-penny-requires
 penny-requires c κs = search needs
 
 factor-requires : tie.Need-factor-requires
 factor-requires c κs =
-    let s = c .before .before .before .before .before .before .before .before .before in
+    let s = c .before .before .before .before .before .before .before .before .before .before in
     let a = s .args in
     let ff : SFits w64 (a .f .0) = search needs in
-    let e = leaf.code-month (c .before .before .before .before .before .before .before .later .ensures) (c .before .before .before .before .before .before .before .before .month-at .ensures) (s .pre .2) in
+    let e = leaf.code-month (c .before .before .before .before .before .before .before .before .later .ensures) (c .before .before .before .before .before .before .before .before .before .month-at .ensures) (s .pre .2) in
     let fm = leaf.month-fits e (s .pre .4) (s .pre .2) in
-    let b = leaf.month-tested ff fm e (c .before .before .before .before .month-ok .ensures) (c .before .before .before .if1 .taken) in
-    leaf.factor-in (a .f .0) (a .factors .now) (s .pre .1) (a .start .0) _ (a .start .0) b e
+    let b = leaf.month-tested ff fm e (c .before .before .before .before .before .month-ok .ensures) (c .before .before .before .before .if1 .taken) in
+    leaf.factor-in (a .f .0) (a .factors .now .now) (s .pre .1) (a .start .0) _ (a .start .0) b e
 
 value-times-requires : tie.Need-value-times-requires
 value-times-requires c κs =
-    let s = c .before .before .before .before .before .before .before .before .before .before in
+    let s = c .before .before .before .before .before .before .before .before .before .before .before in
     let a = s .args in
-    let e = leaf.code-month (c .before .before .before .before .before .before .before .before .later .ensures) (c .before .before .before .before .before .before .before .before .before .month-at .ensures) (s .pre .2) in
-    leaf.product-small (a .f .0) (a .factors .now) (s .pre .1) (a .start .0) _ _ (unit-one (natAbs (a .pair .p)) (natAbs (a .pair .q)) _ _) e (c .before .penny .ensures) (c .factor .ensures)
+    let e = leaf.code-month (c .before .before .before .before .before .before .before .before .before .later .ensures) (c .before .before .before .before .before .before .before .before .before .before .month-at .ensures) (s .pre .2) in
+    leaf.product-small (a .f .0) (a .factors .now .now) (s .pre .1) (a .start .0) _ _ (unit-one (natAbs (a .pair .p)) (natAbs (a .pair .q)) _ _) e (c .before .before .penny .ensures) (c .factor .ensures)
 
 returns-2 : tie.Need-returns-2
 returns-2 c =
-    let s = c .before .before .before .before .before .before .before .before .before .before .before in
+    let s = c .before .before .before .before .before .before .before .before .before .before .before .before in
     let a = s .args in
     let ff : SFits w64 (a .f .0) = search needs in
-    let e = leaf.code-month (c .before .before .before .before .before .before .before .before .before .later .ensures) (c .before .before .before .before .before .before .before .before .before .before .month-at .ensures) (s .pre .2) in
+    let e = leaf.code-month (c .before .before .before .before .before .before .before .before .before .before .later .ensures) (c .before .before .before .before .before .before .before .before .before .before .before .month-at .ensures) (s .pre .2) in
     let fm = leaf.month-fits e (s .pre .4) (s .pre .2) in
-    let b = leaf.month-tested ff fm e (c .before .before .before .before .before .before .month-ok .ensures) (c .before .before .before .before .before .if1 .taken) in
-    leaf.paid (a .f .0) (a .factors .now) (s .pre .1) (a .start .0) _ _ (unit-one (natAbs (a .pair .p)) (natAbs (a .pair .q)) _ _) e (c .before .before .penny .ensures) (c .before .factor .ensures) b (ap (λ z. ltZ z (a .start .0)) (sym e) ∙ sym (c .before .before .before .before .earlier .ensures) ∙ c .before .before .before .if2 .left) (c .value-times .ensures)
+    let b = leaf.month-tested ff fm e (c .before .before .before .before .before .before .before .month-ok .ensures) (c .before .before .before .before .before .before .if1 .taken) in
+    leaf.paid (a .f .0) (a .factors .now .now) (s .pre .1) (a .start .0) _ _ (unit-one (natAbs (a .pair .p)) (natAbs (a .pair .q)) _ _) e (c .before .before .before .penny .ensures) (c .before .factor .ensures) b (ap (λ z. ltZ z (a .start .0)) (sym e) ∙ sym (c .before .before .before .before .before .earlier .ensures) ∙ c .before .before .before .before .if2 .left) (c .value-times .ensures)
 
 returns-3 : tie.Need-returns-3
 returns-3 c =
@@ -71,7 +71,7 @@ returns-3 c =
     let ff : SFits w64 (a .f .0) = search needs in
     let e = leaf.code-month (c .before .before .before .before .later .ensures) (c .before .before .before .before .before .month-at .ensures) (s .pre .2) in
     let fm = leaf.month-fits e (s .pre .4) (s .pre .2) in
-    leaf.out-of-table (a .f .0) (a .factors .now) (s .pre .1) (a .start .0) _ _ (leaf.month-tested ff fm e (c .before .month-ok .ensures) (c .if1 .left))
+    leaf.out-of-table (a .f .0) (a .factors .now .now) (s .pre .1) (a .start .0) _ _ (leaf.month-tested ff fm e (c .before .month-ok .ensures) (c .if1 .left))
 
 pub leaf-worth-spec : {M : Type 1} → statement M
 leaf-worth-spec =
