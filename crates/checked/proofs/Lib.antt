@@ -1,4 +1,5 @@
 -- Laws of amounts and tests with refusals.
+pub mod Refusals
 pub mod Bounds
 pub mod CheckedArms
 pub mod CheckedNodes

@@ -2,5 +2,6 @@
 pub mod Answers
 pub mod Checked
 pub mod Coded
+pub mod Evaluated
 pub mod FourMonths
 pub mod Ranges

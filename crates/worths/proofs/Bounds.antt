@@ -15,9 +15,9 @@ use Rattle.language.specs.Payments.Amounts.{Lookup}
 use Rattle.language.specs.Payments.Pays.{Sign, Tried, hit, miss, started}
 use Rattle.language.specs.Payoff.Evaluate.{Ranges, checkedHolds, checkedWorth, inRange}
 use Rattle.language.specs.Text.Trees.{Payoff, await, cut, leaf, nil, plus, times, uncut}
-use Rattle.worths.proofs.Refusals.{Within, amount-evaluated, both, came, either, in-range, refuses, test-evaluated, then, wait-evaluated}
+use Rattle.checked.proofs.Refusals.{Within, amount-evaluated, both, came, either, in-range, refuses, test-evaluated, then, wait-evaluated}
 use Rattle.worths.specs.Answers.{SmallWorth, valueAnswer, worthAnswer}
-use Rattle.worths.specs.Coded.{Evaluated}
+use Rattle.checked.specs.Evaluated.{Evaluated}
 use Rattle.worths.specs.declared.answers.Worth.{Worth}
 use Rattle.worths.specs.declared.answers.Worth.the-variants as worth
 

@@ -3,7 +3,6 @@ pub mod Bounds
 pub mod Codes
 pub mod FourWaits
 pub mod LeafLaws
-pub mod Refusals
 pub mod WaitLoop
 pub mod WorthArms
 pub mod WorthNodes

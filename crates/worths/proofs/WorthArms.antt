@@ -26,7 +26,7 @@ use Rattle.worths.proofs.Bounds.{worth-codable, worth-small}
 use Rattle.worths.proofs.WorthNodes.{PayoffNode, payoffOf}
 use Rattle.worths.specs.Answers.{SmallWorth, worthAnswer}
 use Rattle.worths.specs.Checked.{worthIn}
-use Rattle.worths.specs.Coded.{Evaluated}
+use Rattle.checked.specs.Evaluated.{Evaluated}
 use Rattle.worths.specs.Leaf.{leafIn}
 use Rattle.worths.specs.declared.answers.Worth.{Worth}
 

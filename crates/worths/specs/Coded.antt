@@ -3,8 +3,6 @@ use Prim.Native.Nat.{_+_, ℕ}
 use lib.Dec.{eqb, leb}
 use lib.IntN.{natAbs, ℤ}
 use mathlib.Core.Bool.{cond}
-use mathlib.Core.Logic.{_⊎_}
-use mathlib.Core.Path.{_≡_}
 use Rattle.language.specs.Answer.{Answer, got, refused}
 use Rattle.language.specs.Limits.{maxValue}
 
@@ -15,8 +13,3 @@ unread = maxValue + 11
 -- a number within the limit stands for itself, one beyond it for 11 or 14
 unfoldable pub codedWorth : ℤ → Answer ℤ
 codedWorth z = cond (leb (natAbs z) maxValue) (got z) (cond (eqb (natAbs z) unread) (refused 11) (refused 14))
-
--- P holds of what came, and a refusal is 11 or 14, the two that evaluation meets
-pub record Evaluated {A : Type 0} (P : A → Type 0) (a : Answer A) : Type 0 where
-  pub value : (x : A) → a ≡ got x → P x
-  pub refusal : (n : ℕ) → a ≡ refused n → (n ≡ 11) ⊎ (n ≡ 14)

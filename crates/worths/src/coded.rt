@@ -2,7 +2,8 @@
 ghost use mathlib.Core.Path.{_≡_};
 ghost use Rattle.integers.specs.Bounded.{SmallValue};
 ghost use Rattle.worths.specs.Answers.{worthAnswer};
-ghost use Rattle.worths.specs.Coded.{Evaluated, codedWorth};
+ghost use Rattle.checked.specs.Evaluated.{Evaluated};
+ghost use Rattle.worths.specs.Coded.{codedWorth};
 use crate::answers::Worth;
 use integers::Millionths;
 use text::Refusal;

@@ -17,7 +17,8 @@ use Rattle.language.specs.Answer.{Answer, refused}
 use Rattle.text.specs.Refusals.{numberOf}
 use Rattle.worths.proofs.Codes.{stands-value}
 use Rattle.worths.specs.Answers.{worthAnswer}
-use Rattle.worths.specs.Coded.{Evaluated, codedWorth}
+use Rattle.checked.specs.Evaluated.{Evaluated}
+use Rattle.worths.specs.Coded.{codedWorth}
 use Rattle.worths.specs.Ranges.{FieldsIn}
 use Rattle.worths.specs.Waits.{WaitKnown, waitAnswer}
 use Prim.Native.Nat.{_<_, ℕ}

@@ -11,7 +11,7 @@ use Rattle.language.specs.Answer.{Answer, _>>=_, got, onBoth, refused}
 use Rattle.language.specs.Payments.Amounts.{Lookup}
 use Rattle.language.specs.Payoff.Evaluate.{checkedHolds, checkedTried, checkedValue, inRange}
 use Rattle.language.specs.Text.Trees.{Amount, Test, choose, conjunction, difference, disjunction, equal, index, less, negation, number, product, quotient, sum}
-use Rattle.worths.specs.Coded.{Evaluated}
+use Rattle.checked.specs.Evaluated.{Evaluated}
 
 -- nothing is asked of what came
 pub record Any {A : Type 0} (x : A) : Type 0 where
