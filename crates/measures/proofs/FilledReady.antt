@@ -1,4 +1,4 @@
--- A filled plan that lies in the table is the plan found there, and can be walked.
+-- A plan that lies in the table can be walked; a filled one is the plan found there.
 use Prim.Native.Nat.{_+_, _≤_, suc, zero, ℕ}
 use Rattle.language.proofs.Payoff.Filled.{fill-closed}
 use Rattle.language.proofs.Text.Form.{depth-map, fields-map}
@@ -9,7 +9,7 @@ use Rattle.language.specs.Text.Letters as form
 use Rattle.language.specs.Text.Letters.{planForm}
 use Rattle.language.specs.Text.Plans.{planTrees}
 use Rattle.language.specs.Text.Reader.{Trees}
-use Rattle.language.specs.Text.Trees.{Amount, Delay, Plan, Test, months, nothing}
+use Rattle.language.specs.Text.Trees.{Amount, Delay, Plan, Test, months, nothing, setting}
 use Rattle.nodes.proofs.BlocksLaid.{plan-blocks}
 use Rattle.measures.specs.Ready.{PlanReady}
 use Rattle.nodes.proofs.AmountsFound.{Finds}
@@ -36,6 +36,11 @@ unfolding delayOf
 months-from (pos n) = refl
 months-from (negsuc n) = refl
 
+none-in-form : (d : Delay) → delayInForm d → filledInForm (delayOf none d)
+unfolding delayOf
+none-in-form (months n) h = h
+none-in-form (setting k) h = omega arith
+
 filled-by : (l : PlanLetter) (d : Delay) (p q : ℤ) (a : Amount ℤ) (t : Test ℤ) (x y z : Plan Delay)
     → fill none (planBy l d p q a t x y z) ≡ planBy l (delayOf none d) p q a t (fill none x) (fill none y) (fill none z)
 unfolding mapPlan
@@ -60,10 +65,16 @@ module _ (nodes : List ℤ) where
       (planAt delayFrom left nodes (at + 1)) (planAt delayFrom left nodes (linkAt nodes at 3)) (planAt delayFrom left nodes (linkAt nodes at 4))
       ∙ rw (months-from (slotAt nodes at 1), found-months left (at + 1), found-months left (linkAt nodes at 3), found-months left (linkAt nodes at 4)) refl
 
+  -- an open setting found as no delay
+  pub open-found : (x : Plan Delay) (r : Trees form.PlanLetter) (at left : ℕ) → Laid planForm nodes at (planTrees x r) → fieldsOf delayInForm x → depthOf x ≤ left → left ≤ maxDepth
+      → Finds (planAt natOf left nodes at) (fill none x) (PlanReady left nodes at)
+  open-found x r at left h f d b =
+      let p = plan-found nodes x r at left h f d (omega arith) in
+      let e : planAt natOf left nodes at ≡ fill none x = sym (found-months left at) ∙ ap (fill none) (p .is) in
+      record { is = e; safe = record { depth = b; stands = p .safe; fields = rw e (fields-map (delayOf none) delayInForm filledInForm none-in-form x f); blocks = plan-blocks nodes x r at left h d (omega arith) } }
+
   pub filled-found : (x : Plan ℕ) (r : Trees form.PlanLetter) (at left : ℕ) → Laid planForm nodes at (planTrees (closed x) r) → fieldsOf filledInForm x → depthOf x ≤ left → left ≤ maxDepth
       → Finds (planAt natOf left nodes at) x (PlanReady left nodes at)
   filled-found x r at left h f d b =
-      let u : depthOf (closed x) ≤ left = omega (arith, depth-map months x) in
-      let p = plan-found nodes (closed x) r at left h (fields-map months filledInForm delayInForm (λ d k. k) x f) u (omega arith) in
-      let e : planAt natOf left nodes at ≡ x = sym (found-months left at) ∙ ap (fill none) (p .is) ∙ fill-closed none x in
-      record { is = e; safe = record { depth = b; stands = p .safe; fields = rw e f; blocks = plan-blocks nodes (closed x) r at left h u (omega arith) } }
+      let p = open-found (closed x) r at left h (fields-map months filledInForm delayInForm (λ d k. k) x f) (omega (arith, depth-map months x)) b in
+      record { is = p .is ∙ fill-closed none x; safe = p .safe }

@@ -20,15 +20,15 @@ use mir.Syntax.{w64}
 use mir.Val.{SFits, ofZ}
 use native.Mathlib.Omega.{arith}
 
--- the plan at a node with letter m, its parts one level down
-abbrev planHere : PlanLetter → ℕ → List ℤ → ℕ → Plan ℕ
-planHere m left nodes at =
-    planBy m (natOf (slotAt nodes at 1)) (slotAt nodes at 1) (slotAt nodes at 2)
+-- the plan at a node with letter m, its parts one level down; `delay` makes a delay of its number
+abbrev pub planHere : {D : Type 0} → (ℤ → D) → PlanLetter → ℕ → List ℤ → ℕ → Plan D
+planHere delay m left nodes at =
+    planBy m (delay (slotAt nodes at 1)) (slotAt nodes at 1) (slotAt nodes at 2)
     (amountAt offsetOf maxNodes nodes (at + 1))
     (testAt offsetOf maxNodes nodes (at + 1))
-    (planAt natOf left nodes (at + 1))
-    (planAt natOf left nodes (linkAt nodes at 3))
-    (planAt natOf left nodes (linkAt nodes at 4))
+    (planAt delay left nodes (at + 1))
+    (planAt delay left nodes (linkAt nodes at 3))
+    (planAt delay left nodes (linkAt nodes at 4))
 
 abbrev asksHere : PlanLetter → ℕ → List ℤ → ℕ → Type 0
 asksHere m left nodes at =
@@ -41,10 +41,10 @@ blocksHere m left nodes at =
     planAsks m (AmountBlock maxNodes nodes (at + 1) (linkAt nodes at 3)) (TestBlock maxNodes nodes (at + 1) (linkAt nodes at 3))
     (PlanBlocks left nodes (at + 1)) (PlanBlocks left nodes (linkAt nodes at 3)) (PlanBlocks left nodes (linkAt nodes at 4))
 
-step : (left : ℕ) (nodes : List ℤ) (at : ℕ) → PlanStands left nodes at → planAt natOf left nodes at ≡ planHere (planLetter (slotAt nodes at 0)) (left - 1) nodes at
+step : {D : Type 0} (delay : ℤ → D) (left : ℕ) (nodes : List ℤ) (at : ℕ) → PlanStands left nodes at → planAt delay left nodes at ≡ planHere delay (planLetter (slotAt nodes at 0)) (left - 1) nodes at
 unfolding planAt PlanStands
-step zero nodes at s = absurd s
-step (suc left) nodes at s = rw (one-less left)
+step delay zero nodes at s = absurd s
+step delay (suc left) nodes at s = rw (one-less left)
 
 asks : (left : ℕ) (nodes : List ℤ) (at : ℕ) → PlanStands left nodes at → (0 < left) × RowIn nodes at × asksHere (planLetter (slotAt nodes at 0)) (left - 1) nodes at
 unfolding PlanStands
@@ -71,13 +71,16 @@ module _ {left at : ℕ} {nodes : List ℤ} (h : PlanReady left nodes at) where
     named : planLetter (slotAt nodes at 0) ≡ m
     named = sym e ∙ t
 
-    pub plan-is : planAt natOf left nodes at ≡ planHere m (left - 1) nodes at
-    plan-is = step left nodes at (h .stands) ∙ rw named refl
+    pub plan-by : {D : Type 0} (delay : ℤ → D) → planAt delay left nodes at ≡ planHere delay m (left - 1) nodes at
+    plan-by delay = step delay left nodes at (h .stands) ∙ rw named refl
+
+    pub plan-is : planAt natOf left nodes at ≡ planHere natOf m (left - 1) nodes at
+    plan-is = plan-by natOf
 
     asked : asksHere m (left - 1) nodes at
     asked = subst (λ k. asksHere k (left - 1) nodes at) named (asks left nodes at (h .stands) .2)
 
-    filled : fieldsOf filledInForm (planHere m (left - 1) nodes at)
+    filled : fieldsOf filledInForm (planHere natOf m (left - 1) nodes at)
     filled = subst (fieldsOf filledInForm) plan-is (h .fields)
 
     stood : blocksHere m (left - 1) nodes at

@@ -18,7 +18,7 @@ pub record TestReady (left : ℕ) (nodes : List ℤ) (at : ℕ) : Type 0 where
   pub stands : TestStands left nodes at
   pub fields : fieldsOfTest offsetInForm (testAt offsetOf left nodes at)
 
--- a plan whose open settings are filled; `left` is the depth left
+-- a plan, in which an open setting counts as no delay; `left` is the depth left
 pub record PlanReady (left : ℕ) (nodes : List ℤ) (at : ℕ) : Type 0 where
   pub depth : left ≤ maxDepth
   pub stands : PlanStands left nodes at

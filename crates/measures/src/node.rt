@@ -2,6 +2,7 @@
 ghost use mathlib.Core.Path.{_≡_};
 ghost use mathlib.Core.Bool.{true};
 ghost use lib.IntN.{pos};
+ghost use lib.Signed.{ltZ};
 ghost use Rattle.nodes.specs.Letters.{planLetter, amountLetter, testLetter};
 ghost use Rattle.nodes.specs.Table.{RowIn, slotAt, natOf};
 ghost use Rattle.nodes.specs.declared.PlanLetter.the-variants.{Transfer};
@@ -42,6 +43,15 @@ pub fn delay(nodes: &&[i64], at: usize) -> Month
         return Month(0);
     }
     Month(d)
+}
+
+// Whether a delay is an open setting, which is kept as a number below zero.
+pub fn is_open(nodes: &&[i64], at: usize) -> bool
+    requires { ⌜ RowIn (now (now nodes)) at ⌝ }
+    ensures { λ r. ⌜ r ≡ ltZ (slotAt (now (now (nodes .entry))) at 1) (pos 0) ⌝ }
+{
+    let d = nodes::slot(nodes, at, 1);
+    d < 0
 }
 
 pub fn is_index(nodes: &&[i64], at: usize) -> bool

@@ -1,11 +1,12 @@
-// A plan that keeps every rule, measured as one number. A plan of which that is not sure is left to the walk that finds its refusal.
+// A plan that keeps every rule, measured as one number. A plan of which that is not sure is left to the walk that finds its refusal,
+// and one with an open setting to the pass that fills it.
 //
 // The number is 1024 times the plan's magnitude, and the months that the table goes on behind its end. Where a rule may be broken the
 // magnitude is beyond the limit. What is needed by a month goes down the walk: `need` is the latest read of the amounts above, from here.
 ghost use mathlib.Core.Path.{_≡_};
 ghost use Prim.Native.Nat.{_%_, _+_, _-_, _*_, _/_, _≤_, min, max, ℕ};
 ghost use lib.ListN.{length};
-ghost use Rattle.language.specs.Limits.{maxMonths};
+ghost use Rattle.language.specs.Limits.{maxAmount, maxMonths};
 ghost use Rattle.language.specs.Rules.Table.{Table};
 ghost use Rattle.language.specs.Text.Trees.{nothing, transfer};
 ghost use Rattle.nodes.specs.Found.{planAt};
@@ -13,6 +14,7 @@ ghost use Rattle.nodes.specs.Table.{natOf};
 ghost use Rattle.measures.specs.Magnitudes.{InBounds, beyond, boundIn, joined};
 ghost use Rattle.measures.specs.Sure.{SureOf};
 ghost use Rattle.measures.specs.Ready.{PlanReady};
+ghost use Rattle.measures.specs.Settled.{Settled};
 ghost use Rattle.measures.specs.Spans.{Near, Seen};
 use crate::first;
 use crate::limit;
@@ -102,7 +104,8 @@ fn quick_part(
 ) -> u64
     requires { ⌜ PlanReady left (now (now nodes)) at × Near left (low .0) (high .0) × InBounds (now (now bounds)) × (natOf (high .0) ≤ maxMonths) ⌝ }
     ensures { λ r. ⌜ (r / 1024 ≤ beyond) × ((t : Table) (a z : ℕ) → Seen (low .0) (high .0) (length (now (now (bounds .entry)))) t a z
-        → SureOf t a z (boundIn (now (now (bounds .entry)))) need (high .0) (planAt natOf left (now (now (nodes .entry))) at) r) ⌝ }
+        → SureOf t a z (boundIn (now (now (bounds .entry)))) need (high .0) (planAt natOf left (now (now (nodes .entry))) at) r)
+        × (r / 1024 ≤ maxAmount → Settled left (now (now (nodes .entry))) at) ⌝ }
 {
     let x = nodes::slot(nodes, at, 0);
     match x {
@@ -124,7 +127,8 @@ pub fn quick_plan(
 ) -> u64
     requires { ⌜ PlanReady left (now (now nodes)) at × Near left (low .0) (high .0) × InBounds (now (now bounds)) × (natOf (high .0) ≤ maxMonths) ⌝ }
     ensures { λ r. ⌜ (r / 1024 ≤ beyond) × ((t : Table) (a z : ℕ) → Seen (low .0) (high .0) (length (now (now (bounds .entry)))) t a z
-        → SureOf t a z (boundIn (now (now (bounds .entry)))) need (high .0) (planAt natOf left (now (now (nodes .entry))) at) r) ⌝ }
+        → SureOf t a z (boundIn (now (now (bounds .entry)))) need (high .0) (planAt natOf left (now (now (nodes .entry))) at) r)
+        × (r / 1024 ≤ maxAmount → Settled left (now (now (nodes .entry))) at) ⌝ }
 {
     let letter = node::plan_kind(nodes, at);
     match letter {
@@ -143,6 +147,9 @@ pub fn quick_plan(
             UNSURE
         }
         PlanLetter::Later => {
+            if node::is_open(nodes, at) {
+                return UNSURE;
+            }
             let d = node::delay(nodes, at);
             let low_then = reads::nearer(low, d);
             let high_then = reads::nearer(high, d);
@@ -156,6 +163,9 @@ pub fn quick_plan(
             added(x, y)
         }
         PlanLetter::Within => {
+            if node::is_open(nodes, at) {
+                return UNSURE;
+            }
             let d = node::delay(nodes, at);
             let low_then = reads::nearer(low, d);
             let high_then = reads::nearer(high, d);

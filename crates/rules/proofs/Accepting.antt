@@ -15,7 +15,7 @@ use Rattle.language.proofs.Truth.{truth}
 use Rattle.language.specs.Answer.{_>>=_, _>>_, got, require}
 use Rattle.language.specs.Calls.{Given, acceptPlan, meetsRules}
 use Rattle.language.specs.Limits.{maxMonths}
-use Rattle.language.specs.Rules.Settings.{allSet, fill}
+use Rattle.language.specs.Rules.Settings.{allSet, closed, fill}
 use Rattle.language.specs.Rules.Table.{boundAt, monthOk, settingAt, settingsOk, tableOk}
 use Rattle.language.specs.Rules.Tests.{knownInTime, planReads, planSmall}
 use Rattle.language.specs.Rules.Measures.{lengthOf}
@@ -25,13 +25,15 @@ use Rattle.measures.proofs.SameReads.{same-plan}
 use Rattle.measures.specs.Ready.{PlanReady}
 use Rattle.nodes.specs.Found.{planAt}
 use Rattle.nodes.specs.Table.{natOf}
-use Rattle.rules.proofs.Filling.{fill-formed, set-is, stands-filled, walked}
+use Rattle.rules.proofs.Filling.{fill-formed, set-is, settled-set, stands-filled, stands-settled, walked}
 use Rattle.rules.specs.Accepting.{AcceptIs, accepting}
 use Rattle.rules.specs.Answers.{Natural, checkingAnswer, givenOf}
 use Rattle.rules.specs.Measured.{InTable, checkedOf, measuredBy}
+use Rattle.rules.specs.Quick.{QuickIs}
 use Rattle.rules.specs.declared.Checking.{Checking}
 use Rattle.rules.specs.Standing.{Standing, Stands}
 use Rattle.rules.specs.declared.Checking.the-variants.{Accepted, Refused}
+use Rattle.rules.specs.declared.Quick.the-variants.{Kept}
 use Rattle.tables.proofs.Spans.{UpTo, bounds-hold, both-true, span-holds}
 use Rattle.tables.specs.Fill.{FillIs}
 use Rattle.tables.specs.Given.{tableOf}
@@ -108,18 +110,29 @@ module _ (g : Given) (today : ℤ) (ok : Bool) (count : ℕ) (before after : Lis
   pub refused-is : (k : Refusal) → ((x : Plan Delay) → Standing before count x → checkingAnswer (Refused k) ≡ accepting g today ok x) → AcceptIs g today ok count before after (Refused k)
   refused-is k h = record { answer = h; filled = λ l m e x s. never-both k e; natural = tt }
 
--- the table was filled and the rules were gone through
+-- the rules were gone through, and each plan stands filled in the table
 module _ (days : List ℤ) (h f : ℤ) (factors bounds values : List ℤ) (today : ℤ) (ok : Bool) (count : ℕ) (before after : List ℤ)
-    (t : tableOk (tableOf h f factors bounds values) ≡ true) (m : monthOk (tableOf h f factors bounds values) today && ok ≡ true) (e : settingsOk days ≡ true)
-    (filled : FillIs days count before after Filled) where
-  pub measure-ready : (p : Stands before count) → PlanReady 32 after 0
-  measure-ready p = walked (fill (settingAt days) (p .plan)) (stands-filled (p .standing) days e (filled .1)) (fill-formed (p .standing) days e) .safe
-
-  pub accept-is : {r : Checking} → checkingAnswer r ≡ measuredBy h f bounds (natOf today) (planAt natOf 32 after 0) → Natural r → AcceptIs (givenOf days h f factors bounds values) today ok count before after r
-  accept-is a z = record {
+    (t : tableOk (tableOf h f factors bounds values) ≡ true) (m : monthOk (tableOf h f factors bounds values) today && ok ≡ true) (e : settingsOk days ≡ true) where
+  accept-stands : ((x : Plan Delay) → Standing before count x → (allSet days x ≡ true) × Standing after count (closed (fill (settingAt days) x)))
+      → {r : Checking} → checkingAnswer r ≡ measuredBy h f bounds (natOf today) (planAt natOf 32 after 0) → Natural r → AcceptIs (givenOf days h f factors bounds values) today ok count before after r
+  accept-stands u a z = record {
     answer = λ x s.
-        a ∙ ap (measuredBy h f bounds (natOf today)) (walked (fill (settingAt days) x) (stands-filled s days e (filled .1)) (fill-formed s days e) .is)
-        ∙ by-rules days h f factors bounds values today ok x t m e (sym (set-is s days) ∙ filled .0) (in-months f today (both-true (monthOk (tableOf h f factors bounds values) today) ok m .0) .1);
-    filled = λ l n q x s. stands-filled s days e (filled .1);
+        a ∙ ap (measuredBy h f bounds (natOf today)) (walked (fill (settingAt days) x) (u x s .1) (fill-formed s days e) .is)
+        ∙ by-rules days h f factors bounds values today ok x t m e (u x s .0) (in-months f today (both-true (monthOk (tableOf h f factors bounds values) today) ok m .0) .1);
+    filled = λ l n q x s. u x s .1;
     natural = z;
   }
+
+  -- the table was filled
+  module _ (filled : FillIs days count before after Filled) where
+    pub measure-ready : (p : Stands before count) → PlanReady 32 after 0
+    measure-ready p = walked (fill (settingAt days) (p .plan)) (stands-filled (p .standing) days e (filled .1)) (fill-formed (p .standing) days e) .safe
+
+    pub accept-is : {r : Checking} → checkingAnswer r ≡ measuredBy h f bounds (natOf today) (planAt natOf 32 after 0) → Natural r → AcceptIs (givenOf days h f factors bounds values) today ok count before after r
+    accept-is = accept-stands (λ x s. (sym (set-is s days) ∙ filled .0, stands-filled s days e (filled .1)))
+
+-- nothing was to be filled
+module _ (days : List ℤ) (h f : ℤ) (factors bounds values : List ℤ) (today : ℤ) (ok : Bool) (count : ℕ) (nodes : List ℤ)
+    (t : tableOk (tableOf h f factors bounds values) ≡ true) (m : monthOk (tableOf h f factors bounds values) today && ok ≡ true) (e : settingsOk days ≡ true) where
+  pub accept-kept : (l : Month) (p : Pence) → QuickIs h f bounds (natOf today) nodes (Kept l p) → AcceptIs (givenOf days h f factors bounds values) today ok count nodes nodes (Accepted l p)
+  accept-kept l p k = accept-stands days h f factors bounds values today ok count nodes nodes t m e (λ x s. (settled-set s (k .2) days, stands-settled s (k .2) days)) (k .0) (k .1)

@@ -7,6 +7,8 @@ use mathlib.Core.Bool.{true}
 use mathlib.Core.List.{List, _++_}
 use mathlib.Core.Path.{_∙_, _≡_, ap, subst, sym}
 use native.Mathlib.Omega.{arith}
+use Rattle.language.proofs.Guarantee.Kept.{set-closed}
+use Rattle.language.proofs.Payoff.Filled.{fill-closed}
 use Rattle.language.proofs.Rules.Tables.{setting-small}
 use Rattle.language.proofs.Text.Form.{formed-map, nodes-map}
 use Rattle.language.specs.Limits.{maxMonths, maxNodes}
@@ -17,11 +19,13 @@ use Rattle.language.specs.Text.Letters.{planForm}
 use Rattle.language.specs.Text.Plans.{planTrees}
 use Rattle.language.specs.Text.Reader.{end}
 use Rattle.language.specs.Text.Trees.{Delay, Plan, months, setting}
-use Rattle.measures.proofs.FilledReady.{filled-found}
+use Rattle.measures.proofs.FilledReady.{filled-found, open-found}
 use Rattle.measures.specs.Ready.{PlanReady}
+use Rattle.measures.specs.Settled.{Settled}
 use Rattle.nodes.proofs.AmountsFound.{Finds}
 use Rattle.nodes.proofs.Counts.{count-plan, plan-rows}
 use Rattle.nodes.proofs.Laid.{Laid, rows-length}
+use Rattle.nodes.proofs.PlansFound.{plan-found}
 use Rattle.nodes.specs.Found.{planAt}
 use Rattle.nodes.specs.Pass.{allRows, mapRows}
 use Rattle.nodes.specs.Rows.{countOf, rows}
@@ -49,6 +53,24 @@ module _ {nodes : List ℤ} {count : ℕ} {x : Plan Delay} (s : Standing nodes c
   -- its rows lead on past amounts and tests
   pub standing-skips : Skips count nodes
   standing-skips = subst (λ n. Skips n nodes) (sym (s .counted)) (subst (Skips (countOf (planTrees x end))) (sym whole) (rows-skip x (drop (5 * count) nodes)))
+
+  -- it can be walked as it stands
+  pub standing-ready : PlanReady 32 nodes 0
+  standing-ready = open-found nodes x end 0 32 laid (s .formed .fields) (s .formed .depth) (omega arith) .safe
+
+  -- without open settings there is nothing to fill
+  module _ (c : Settled 32 nodes 0) (days : List ℤ) where
+    as-found : closed (planAt natOf 32 nodes 0) ≡ x
+    as-found = c .is ∙ plan-found nodes x end 0 32 laid (s .formed .fields) (s .formed .depth) (omega arith) .is
+
+    pub settled-set : allSet days x ≡ true
+    settled-set = ap (allSet days) (sym as-found) ∙ set-closed days (planAt natOf 32 nodes 0)
+
+    same-filled : x ≡ closed (fill (settingAt days) x)
+    same-filled = sym as-found ∙ ap closed (sym (fill-closed (settingAt days) (planAt natOf 32 nodes 0)) ∙ ap (fill (settingAt days)) as-found)
+
+    pub stands-settled : Standing nodes count (closed (fill (settingAt days) x))
+    stands-settled = subst (Standing nodes count) same-filled s
 
   module _ (days : List ℤ) where
     pub set-is : allRows (rowSet days) count nodes ≡ allSet days x

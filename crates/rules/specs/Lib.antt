@@ -2,4 +2,5 @@
 pub mod Accepting
 pub mod Answers
 pub mod Measured
+pub mod Quick
 pub mod Standing

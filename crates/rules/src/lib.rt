@@ -8,6 +8,7 @@ ghost use Rattle.nodes.specs.Table.{natOf};
 ghost use Rattle.rules.specs.Accepting.{AcceptIs};
 ghost use Rattle.rules.specs.Answers.{Natural, checkingAnswer, givenOf};
 ghost use Rattle.rules.specs.Measured.{InTable, measuredBy};
+ghost use Rattle.rules.specs.Quick.{QuickIs};
 ghost use Rattle.rules.specs.Standing.{Stands};
 ghost use Rattle.text.specs.Room.{Roomy, lettersIn};
 use integers::Month;
@@ -51,10 +52,16 @@ fn measure_in_order(nodes: &[i64], today: Month, span: Span, bounds: &[i64]) -> 
     }
 }
 
-// The rules of a plan. Most plans keep them all, and that is found sooner than which is broken first.
-pub fn measure(nodes: &[i64], today: Month, span: Span, bounds: &[i64]) -> Checking
+// What the quick walk finds of a plan as it stands in the table: that it keeps every rule and has no open setting, or nothing sure.
+enum Quick {
+    Kept(Month, Pence),
+    Unsure,
+}
+
+// The rules of a plan by the quick walk alone.
+fn quick_measure(nodes: &[i64], today: Month, span: Span, bounds: &[i64]) -> Quick
     requires { ⌜ PlanReady 32 (now nodes) 0 × InTable (today .0) (span .h) (span .f) (now bounds) ⌝ }
-    ensures { λ r. ⌜ (checkingAnswer r ≡ measuredBy (span .h) (span .f) (now (bounds .entry)) (natOf (today .0)) (planAt natOf 32 (now (nodes .entry)) 0)) × Natural r ⌝ }
+    ensures { λ r. ⌜ QuickIs (span .h) (span .f) (now (bounds .entry)) (natOf (today .0)) (now (nodes .entry)) r ⌝ }
 {
     let low = measures::reads::nearer(Month(0 - span.h), today);
     let high = measures::reads::nearer(Month(span.f), today);
@@ -63,9 +70,21 @@ pub fn measure(nodes: &[i64], today: Month, span: Span, bounds: &[i64]) -> Check
     if measures::limit::is_within(magnitude) {
         // high less the months that are left behind the plan's end
         let length = measures::reads::nearer(high, Month((found % 1024) as i64));
-        return Checking::Accepted(length, Pence(magnitude as i64));
+        return Quick::Kept(length, Pence(magnitude as i64));
     }
-    measure_in_order(nodes, today, span, bounds)
+    Quick::Unsure
+}
+
+// The rules of a plan. Most plans keep them all, and that is found sooner than which is broken first.
+pub fn measure(nodes: &[i64], today: Month, span: Span, bounds: &[i64]) -> Checking
+    requires { ⌜ PlanReady 32 (now nodes) 0 × InTable (today .0) (span .h) (span .f) (now bounds) ⌝ }
+    ensures { λ r. ⌜ (checkingAnswer r ≡ measuredBy (span .h) (span .f) (now (bounds .entry)) (natOf (today .0)) (planAt natOf 32 (now (nodes .entry)) 0)) × Natural r ⌝ }
+{
+    let found = quick_measure(nodes, today, span, bounds);
+    match found {
+        Quick::Kept(length, magnitude) => Checking::Accepted(length, magnitude),
+        Quick::Unsure => measure_in_order(nodes, today, span, bounds),
+    }
 }
 
 // A plan that was read: 9, 12, 8, and the rules. Its open settings are filled in the table.
@@ -88,6 +107,13 @@ pub fn accept(
     if tables::table_ok(span, factors, bounds, values) {
         if tables::month_ok(span.f, today.0) & caller {
             if tables::settings_ok(days) {
+                // Where no setting is lent, a plan that is accepted has none to fill.
+                if days.len() == 0 {
+                    let found = quick_measure(nodes, today, span, bounds);
+                    if let Quick::Kept(length, magnitude) = found {
+                        return Checking::Accepted(length, magnitude);
+                    }
+                }
                 let filling = tables::fill::fill_rows(nodes, count, days);
                 match filling {
                     Filling::Filled => measure(nodes, today, span, bounds),
