@@ -46,7 +46,7 @@
  *     cut                                22,000
  *     compile                            27,000
  *     check, payment                     33,000
- *     evaluate                           39,000
+ *     evaluate                           36,000
  *     step                               43,000
  *     sheet                             106,000
  *

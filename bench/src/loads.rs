@@ -290,6 +290,13 @@ pub fn deepest() -> Vec<Load> {
     add("R", tests("R,"));
     add("Y", tests("Y,E,N,1,N,1,"));
     add("V", tests("V,E,N,1,N,2,"));
+    // With a text so long that the longest table is taken.
+    for open in ["L,0,", "B,T,1,2,", "S,N,1,"] {
+        let sum = tree(150, 8, &mut 0);
+        let chain = open.repeat(30);
+        let name = format!("{} beside a sum", &open[..1]);
+        add(&name, format!("B,S,{sum},T,1,2,{chain}T,1,2"));
+    }
     let mixed = "I,G,N,0,A,".repeat(10) + "N,1" + &",N,1,N,1,N,1".repeat(10);
     add("I in G in I", format!("S,{mixed},T,1,2"));
     loads
@@ -304,18 +311,20 @@ pub fn refused() -> Vec<Load> {
         ("S", "S,N,1,"),
         ("W", "W,0,E,N,1,N,2,Z,"),
     ];
-    opens
-        .iter()
-        .map(|(letter, open)| {
-            let plan = open.repeat(29) + great;
-            Load::plan(
-                &format!("32 deep, {letter}, refused"),
-                plan,
-                &[],
-                table(0, 600, 8, 200),
-            )
-        })
-        .collect()
+    let mut loads = Vec::new();
+    for (letter, open) in opens {
+        let mut add = |name: &str, plan: String| {
+            let name = format!("32 deep, {letter}{name}, refused");
+            loads.push(Load::plan(&name, plan, &[], table(0, 600, 8, 200)));
+        };
+        add("", open.repeat(29) + great);
+        let sum = tree(150, 8, &mut 0);
+        add(
+            " beside a sum",
+            format!("B,S,{sum},T,1,2,{}{great}", open.repeat(28)),
+        );
+    }
+    loads
 }
 
 #[cfg(test)]

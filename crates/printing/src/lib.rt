@@ -11,7 +11,7 @@ mod again;
 
 use writer::Written;
 use writer::digits;
-use writer::fields;
+use writer::parts;
 
 // Writes a word.
 fn put_word(word: &[u8], out: &mut [u8], at: usize) -> usize
@@ -56,8 +56,8 @@ fn put_numbers(
     requires { ⌜ (m < length (now column)) × (m < length (now rest)) × (at + length (numbersText (now column) (now rest) m) ≤ length (now out)) × (now pairs ≡ allPairs) ⌝ }
     ensures { λ r. ⌜ Put (now (out .entry)) (now (out .exit)) at r (numbersText (now (column .entry)) (now (rest .entry)) m) ⌝ }
 {
-    let b = fields::put_field_by(pairs, column, m, out, at);
-    let c = fields::put_field_by(pairs, rest, m, out, b);
+    let b = parts::put_field_by(pairs, column, m, out, at);
+    let c = parts::put_field_by(pairs, rest, m, out, b);
     out[c] = b'\n';
     c + 1
 }
@@ -139,8 +139,8 @@ fn put_head(head: &[i64], out: &mut [u8]) -> usize
     ensures { λ r. ⌜ Put (now (out .entry)) (now (out .exit)) 0 r (headText (now (head .entry))) ⌝ }
 {
     let a = put_word(b"accepted", out, 0);
-    let b = fields::put_field(head, 0, out, a);
-    let c = fields::put_field(head, 1, out, b);
+    let b = parts::put_field(head, 0, out, a);
+    let c = parts::put_field(head, 1, out, b);
     out[c] = b'\n';
     c + 1
 }
@@ -199,7 +199,7 @@ fn put_refusal(number: &[i64], out: &mut [u8]) -> usize
     ensures { λ r. ⌜ Put (now (out .entry)) (now (out .exit)) 0 r (refusalText (now (number .entry))) ⌝ }
 {
     let a = put_word(b"refused", out, 0);
-    let b = fields::put_field(number, 0, out, a);
+    let b = parts::put_field(number, 0, out, a);
     out[b] = b'\n';
     b + 1
 }

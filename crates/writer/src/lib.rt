@@ -7,7 +7,7 @@ ghost use Rattle.writer.specs.Put.{Put};
 ghost use Rattle.writer.specs.Written.{written};
 
 pub mod digits;
-pub mod fields;
+pub mod parts;
 mod rows;
 
 pub enum Written {

@@ -6,7 +6,7 @@ ghost use Rattle.writer.specs.Put.{Put};
 ghost use Rattle.writer.specs.Shapes.{ShapeOf, indexParts, leafParts, rowText};
 ghost use Rattle.writer.specs.Written.{letterByte, slot};
 use crate::digits;
-use crate::fields;
+use crate::parts;
 
 // Which fields a row has.
 pub enum Shape {
@@ -64,12 +64,10 @@ pub fn row_length(nodes: &[i64], j: usize) -> usize
         Shape::Pair => 3
             + digits::number_length(nodes, j + 1)
             + digits::number_length(nodes, j + 2),
-        Shape::Wait => 2 + fields::delay_length(nodes, j + 1),
-        Shape::Index => 3
-            + digits::number_length(nodes, j + 1)
-            + fields::month_length(nodes, j + 2),
+        Shape::Wait => 2 + parts::delay_length(nodes, j + 1),
+        Shape::Index => 3 + digits::number_length(nodes, j + 1) + parts::month_length(nodes, j + 2),
         Shape::Leaf => 4
-            + fields::month_length(nodes, j + 1)
+            + parts::month_length(nodes, j + 1)
             + digits::number_length(nodes, j + 3)
             + digits::number_length(nodes, j + 4),
     }
@@ -81,11 +79,11 @@ fn put_index(nodes: &[i64], j: usize, out: &mut [u8], at: usize) -> usize
     ensures { λ r. ⌜ Put (now (out .entry)) (now (out .exit)) at r (indexParts j (now (nodes .entry))) ⌝ }
 {
     let month = j + 2;
-    let next = fields::put_field(nodes, j + 1, out, at);
+    let next = parts::put_field(nodes, j + 1, out, at);
     if digits::magnitude(nodes, month + 1) == 0 {
-        fields::put_field(nodes, month, out, next)
+        parts::put_field(nodes, month, out, next)
     } else {
-        fields::put_month(nodes, month, out, next)
+        parts::put_month(nodes, month, out, next)
     }
 }
 
@@ -97,13 +95,13 @@ fn put_leaf(nodes: &[i64], j: usize, out: &mut [u8], at: usize) -> usize
     let month = j + 1;
     let settings = digits::magnitude(nodes, month + 1);
     if settings == 0 {
-        let next = fields::put_field(nodes, month, out, at);
-        let third = fields::put_field(nodes, j + 3, out, next);
-        fields::put_field(nodes, j + 4, out, third)
+        let next = parts::put_field(nodes, month, out, at);
+        let third = parts::put_field(nodes, j + 3, out, next);
+        parts::put_field(nodes, j + 4, out, third)
     } else {
-        let next = fields::put_month(nodes, month, out, at);
-        let third = fields::put_field(nodes, j + 3, out, next);
-        fields::put_field(nodes, j + 4, out, third)
+        let next = parts::put_month(nodes, month, out, at);
+        let third = parts::put_field(nodes, j + 3, out, next);
+        parts::put_field(nodes, j + 4, out, third)
     }
 }
 
@@ -118,12 +116,12 @@ pub fn put_row(nodes: &[i64], j: usize, out: &mut [u8], at: usize) -> usize
     let place = at + 1;
     match shape {
         Shape::Bare => place,
-        Shape::Number => fields::put_figure(nodes, j + 1, out, place),
+        Shape::Number => parts::put_figure(nodes, j + 1, out, place),
         Shape::Pair => {
-            let next = fields::put_field(nodes, j + 1, out, place);
-            fields::put_field(nodes, j + 2, out, next)
+            let next = parts::put_field(nodes, j + 1, out, place);
+            parts::put_field(nodes, j + 2, out, next)
         }
-        Shape::Wait => fields::put_delay(nodes, j + 1, out, place),
+        Shape::Wait => parts::put_delay(nodes, j + 1, out, place),
         Shape::Index => put_index(nodes, j, out, place),
         Shape::Leaf => put_leaf(nodes, j, out, place),
     }

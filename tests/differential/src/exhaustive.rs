@@ -1,4 +1,4 @@
-//! Every short text: all rows of fields up to a length, cut off where the reader has refused.
+//! Every short text: all rows of fields up to a length, cut off where the reader has refused. And texts of every size.
 
 use crate::calls::{Call, Calls, Kind};
 use crate::harness::{Fault, Harness};
@@ -10,7 +10,7 @@ const FIELDS: [&str; 30] = [
     "H", "J", "0", "1", "2", "-1", "P0", "P1", "1+P0", "01", "",
 ];
 
-/// Compares all calls on every text of at most `longest` fields.
+/// Compares all calls on every text of at most `longest` fields, and on texts of every number of nodes.
 pub fn run<C: Calls>(harness: &mut Harness<C>, longest: usize) -> Result<(), Fault> {
     for payoffs in [false, true] {
         let kinds: Vec<Kind> = Kind::ALL
@@ -20,9 +20,43 @@ pub fn run<C: Calls>(harness: &mut Harness<C>, longest: usize) -> Result<(), Fau
             .collect();
         if !kinds.is_empty() {
             extend(harness, &kinds, String::new(), longest)?;
+            sizes(harness, &kinds)?;
         }
     }
     Ok(())
+}
+
+/// Texts of each number of nodes that a text may have, and one more: an engine may keep few nodes and many in different places.
+fn sizes<C: Calls>(harness: &mut Harness<C>, kinds: &[Kind]) -> Result<(), Fault> {
+    for nodes in 3..=513 {
+        // As a sum beneath an `S`, and as dense as can be, two bytes a node. A tree that joins two by two has an odd number
+        // of nodes, a `Q` is one more.
+        let (sum, dense) = match nodes % 2 {
+            1 => (tree("A", "N,1", nodes - 2), tree("B", "Z", nodes)),
+            _ => {
+                let sum = format!("Q,1,{}", tree("A", "N,1", nodes - 3));
+                (sum, format!("S,Q,1,N,1,{}", tree("B", "Z", nodes - 3)))
+            }
+        };
+        compare_all(harness, kinds, &format!("S,{sum},Z"))?;
+        compare_all(harness, kinds, &dense)?;
+    }
+    Ok(())
+}
+
+/// A balanced tree of an odd number of nodes.
+fn tree(join: &str, leaf: &str, nodes: usize) -> String {
+    if nodes == 1 {
+        return leaf.into();
+    }
+    // Both parts have an odd number too.
+    let first = (nodes - 1) / 2 / 2 * 2 + 1;
+    let second = nodes - 1 - first;
+    format!(
+        "{join},{},{}",
+        tree(join, leaf, first),
+        tree(join, leaf, second)
+    )
 }
 
 /// All texts that begin with this one, which the reader would read on.
@@ -86,7 +120,7 @@ fn calls_on(kind: Kind, text: &str) -> Vec<Call> {
         ..Call::of_text(kind, text.as_bytes().to_vec())
     };
     let call = Call {
-        out: if kind.writes() { 64 } else { 0 },
+        out: if kind.writes() { 64.max(text.len()) } else { 0 },
         ..call
     };
     let months = |of: fn(&mut Call) -> &mut i64| {

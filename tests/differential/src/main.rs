@@ -1,7 +1,7 @@
 //! `differential [--calls N] [--seed S] [--only check,payment,..] [--coverage]`: random calls of the
 //! engine compared with the interpreter.
 //!
-//! `differential --exhaustive K [--only ..]`: calls on every text of at most K fields instead.
+//! `differential --exhaustive K [--only ..]`: calls on every text of at most K fields, and on texts of every size, instead.
 //!
 //! `--replay FILE` makes the one call that a report tells of. For an engine that does not come back:
 //! `--scenarios` names each scenario before it runs, and `--from K --calls 1 --trace` runs the Kth
@@ -76,7 +76,7 @@ fn run(options: &Options) -> ExitCode {
     }
     let compared = harness.compared;
     let which = match options.exhaustive {
-        Some(longest) => format!("every text of {longest} fields"),
+        Some(longest) => format!("every text of {longest} fields, and texts of every size"),
         None => format!("seed {seed}"),
     };
     match result {

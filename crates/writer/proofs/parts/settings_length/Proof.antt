@@ -4,8 +4,8 @@ use lib.ListN.{length}
 use mathlib.Core.Path.{ap, sym}
 use native.Mathlib.Omega.{arith}
 use Rattle.writer.proofs.SettingTexts.{Summing, no-settings, sum-most, summing-ends, summing-on, summing-starts}
-use Rattle.writer.proofs.fields.settings_length.Statement.{statement}
-use Rattle.writer.proofs.fields.settings_length.Tie as tie
+use Rattle.writer.proofs.parts.settings_length.Statement.{statement}
+use Rattle.writer.proofs.parts.settings_length.Tie as tie
 
 abbrev Inv-loop : tie.InvT-loop
 Inv-loop digits sum₀ left₀ k₀ sum left k = Summing digits sum left k

@@ -4,8 +4,8 @@ use lib.ListN.{length-set}
 use native.Mathlib.Omega.{arith}
 use Rattle.writer.proofs.Puts.{kept}
 use Rattle.writer.proofs.SettingTexts.{Copying, copying-ends, copying-on, copying-room, copying-starts}
-use Rattle.writer.proofs.fields.put_setting.Statement.{statement}
-use Rattle.writer.proofs.fields.put_setting.Tie as tie
+use Rattle.writer.proofs.parts.put_setting.Statement.{statement}
+use Rattle.writer.proofs.parts.put_setting.Tie as tie
 
 abbrev Inv-loop : tie.InvT-loop
 Inv-loop k n out₀ at place₀ i₀ out place i = Copying k out₀ out at place i n

@@ -4,8 +4,8 @@ use lib.ListN.{length-set}
 use mathlib.Core.Path.{_∙_, sym}
 use native.Mathlib.Omega.{arith}
 use Rattle.writer.proofs.Puts.{kept, one, then}
-use Rattle.writer.proofs.fields.put_figure.Statement.{statement}
-use Rattle.writer.proofs.fields.put_figure.Tie as tie
+use Rattle.writer.proofs.parts.put_figure.Statement.{statement}
+use Rattle.writer.proofs.parts.put_figure.Tie as tie
 
 slice-write-out : tie.Need-slice-write-out
 slice-write-out c = search needs

@@ -11,8 +11,8 @@ use Rattle.language.specs.Text.Classes.{printDelay}
 use Rattle.language.specs.Text.Number.{printNat}
 use Rattle.writer.proofs.Numbers.{delay-above, delay-below, some-below}
 use Rattle.writer.proofs.Puts.{kept, one, said, then, three}
-use Rattle.writer.proofs.fields.put_delay.Statement.{statement}
-use Rattle.writer.proofs.fields.put_delay.Tie as tie
+use Rattle.writer.proofs.parts.put_delay.Statement.{statement}
+use Rattle.writer.proofs.parts.put_delay.Tie as tie
 use Rattle.writer.specs.Written.{delayOf, slot}
 
 fits : (c : tie.After-z) → SFits w64 (slot (c .before .before .args .nodes .now) (c .before .before .args .k))

@@ -5,8 +5,8 @@ use lib.IntN.{ℤ}
 use native.Mathlib.Omega.{arith}
 use Rattle.writer.proofs.FieldTexts.{month-length, number-small}
 use Rattle.writer.proofs.SettingTexts.{settings-most}
-use Rattle.writer.proofs.fields.month_length.Statement.{statement}
-use Rattle.writer.proofs.fields.month_length.Tie as tie
+use Rattle.writer.proofs.parts.month_length.Statement.{statement}
+use Rattle.writer.proofs.parts.month_length.Tie as tie
 use Rattle.writer.specs.Written.{slot}
 
 module _ (c : tie.Start) where

@@ -9,8 +9,8 @@ use native.Mathlib.Omega.{arith}
 use Rattle.language.specs.Text.Number.{printNumber}
 use Rattle.writer.proofs.FieldTexts.{month-is}
 use Rattle.writer.proofs.Puts.{one, room-as, room-first, room-front, room-next, said, then}
-use Rattle.writer.proofs.fields.put_month.Statement.{statement}
-use Rattle.writer.proofs.fields.put_month.Tie as tie
+use Rattle.writer.proofs.parts.put_month.Statement.{statement}
+use Rattle.writer.proofs.parts.put_month.Tie as tie
 use Rattle.writer.specs.Shapes.{monthField, numberField, settingsText}
 use Rattle.writer.specs.Written.{slot}
 

@@ -5,8 +5,8 @@ use mathlib.Core.Path.{_∙_, ap, refl, sym}
 use mir.Syntax.{w64}
 use mir.Val.{SFits}
 use Rattle.writer.proofs.Numbers.{delay-above, delay-below}
-use Rattle.writer.proofs.fields.delay_length.Statement.{statement}
-use Rattle.writer.proofs.fields.delay_length.Tie as tie
+use Rattle.writer.proofs.parts.delay_length.Statement.{statement}
+use Rattle.writer.proofs.parts.delay_length.Tie as tie
 use Rattle.writer.specs.Written.{slot}
 
 fits : (c : tie.After-z) → SFits w64 (slot (c .before .args .nodes .now) (c .before .args .k))

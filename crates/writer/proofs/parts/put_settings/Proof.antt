@@ -4,8 +4,8 @@ use mathlib.Core.Path.{sym}
 use native.Mathlib.Omega.{arith}
 use Rattle.writer.proofs.Puts.{kept, none, said}
 use Rattle.writer.proofs.SettingTexts.{Settling, no-settings, settling-ends, settling-on, settling-room, settling-starts}
-use Rattle.writer.proofs.fields.put_settings.Statement.{statement}
-use Rattle.writer.proofs.fields.put_settings.Tie as tie
+use Rattle.writer.proofs.parts.put_settings.Statement.{statement}
+use Rattle.writer.proofs.parts.put_settings.Tie as tie
 
 abbrev Inv-loop : tie.InvT-loop
 Inv-loop digits out₀ at place₀ left₀ k₀ out place left k = Settling digits out₀ out at place left k
