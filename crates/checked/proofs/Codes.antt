@@ -1,22 +1,21 @@
--- What a number stands for: an amount, 11 or 14.
-use Prim.Native.Nat.{_<_, _≤_}
+-- What a number stands for: itself, 11 or 14.
+use Prim.Native.Nat.{_<_, _≤_, ℕ}
 use borrow.Author.Tests.{eq-eqb, le-leb, lt-leb, ne-eqb}
 use lib.IntN.{natAbs, ℤ}
 use mathlib.Core.Path.{_≡_, refl}
 use native.Mathlib.Omega.{arith}
 use Rattle.language.specs.Answer.{got, refused}
-use Rattle.language.specs.Limits.{maxAmount}
-use Rattle.checked.specs.Coded.{unread, valuedIn}
+use Rattle.checked.specs.Coded.{decoded, unread}
 
-module _ (z : ℤ) where
-  pub stands-amount : natAbs z ≤ maxAmount → valuedIn z ≡ got z
-  unfolding valuedIn
-  stands-amount h = rw (le-leb (natAbs z) maxAmount h) refl
+module _ (lim : ℕ) (z : ℤ) where
+  pub stands-value : natAbs z ≤ lim → decoded lim z ≡ got z
+  unfolding decoded
+  stands-value h = rw (le-leb (natAbs z) lim h) refl
 
-  pub stands-unread : natAbs z ≡ unread → valuedIn z ≡ refused 11
-  unfolding valuedIn
-  stands-unread e = rw (lt-leb (natAbs z) maxAmount (omega (arith, e)), eq-eqb (natAbs z) unread e) refl
+  pub stands-unread : natAbs z ≡ unread lim → decoded lim z ≡ refused 11
+  unfolding decoded
+  stands-unread e = rw (lt-leb (natAbs z) lim (omega (arith, e)), eq-eqb (natAbs z) (unread lim) e) refl
 
-  pub stands-beyond : maxAmount < natAbs z → (natAbs z ≡ unread → ⊥) → valuedIn z ≡ refused 14
-  unfolding valuedIn
-  stands-beyond h e = rw (lt-leb (natAbs z) maxAmount h, ne-eqb (natAbs z) unread e) refl
+  pub stands-beyond : lim < natAbs z → (natAbs z ≡ unread lim → ⊥) → decoded lim z ≡ refused 14
+  unfolding decoded
+  stands-beyond h e = rw (lt-leb (natAbs z) lim h, ne-eqb (natAbs z) (unread lim) e) refl

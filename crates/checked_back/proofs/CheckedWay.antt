@@ -4,7 +4,7 @@ use Rattle.amounts.specs.Fine.{Divides}
 use Rattle.backwards.proofs.Waiting as loop
 use Rattle.backwards.proofs.Ways.{Values, Way, amount-leaves, taken, taken-more}
 use Rattle.checked.proofs.Bounds.{valued-small}
-use Rattle.checked.proofs.Codes.{stands-amount}
+use Rattle.checked.proofs.Codes.{stands-value}
 use Rattle.checked.proofs.Combined.{amount-within}
 use Rattle.checked.proofs.RowAnswers.{divided}
 use Rattle.checked.specs.Answers.{amountAnswer, dividedBy, valuedAnswer}
@@ -113,7 +113,7 @@ module _ (h f : ℤ) (bounds values : List ℤ) (w : ℕ) where
 
   -- a value that comes stands for itself
   pub stands : (a : Amount ℤ) {z : ℤ} → worthOf a ≡ got z → valuedIn z ≡ worthOf a
-  stands a {z} e = stands-amount z (small a e .small) ∙ sym e
+  stands a {z} e = stands-value maxAmount z (small a e .small) ∙ sym e
 
   module _ {nodes : List ℤ} {from to : ℕ} {a : Answer ℤ} {stack : List ℤ} {depth : ℕ} {top : ℤ} {at : ℕ} (p : loop.Passing checkedWay nodes from to a stack depth top at) (l : from < at) where
     -- r is what the code reads, q the value that was found

@@ -18,6 +18,6 @@ pub mod RowLetters
 pub mod RowSums
 pub mod RowsTogether
 pub mod SameReads
-pub mod SettledPlans
+pub mod ClosedPlans
 pub mod SurePlans
 pub mod Windows

@@ -3,7 +3,7 @@ pub mod Magnitudes
 pub mod PlanMeasures
 pub mod Ready
 pub mod Rows
-pub mod Settled
+pub mod Closed
 pub mod Spans
 pub mod Sure
 pub mod Timing

@@ -14,7 +14,7 @@ ghost use Rattle.nodes.specs.Table.{natOf};
 ghost use Rattle.measures.specs.Magnitudes.{InBounds, beyond, boundIn, joined};
 ghost use Rattle.measures.specs.Sure.{SureOf};
 ghost use Rattle.measures.specs.Ready.{PlanReady};
-ghost use Rattle.measures.specs.Settled.{Settled};
+ghost use Rattle.measures.specs.Closed.{ClosedAt};
 ghost use Rattle.measures.specs.Spans.{Near, Seen};
 use crate::first;
 use crate::limit;
@@ -105,7 +105,7 @@ fn quick_part(
     requires { ⌜ PlanReady left (now (now nodes)) at × Near left (low .0) (high .0) × InBounds (now (now bounds)) × (natOf (high .0) ≤ maxMonths) ⌝ }
     ensures { λ r. ⌜ (r / 1024 ≤ beyond) × ((t : Table) (a z : ℕ) → Seen (low .0) (high .0) (length (now (now (bounds .entry)))) t a z
         → SureOf t a z (boundIn (now (now (bounds .entry)))) need (high .0) (planAt natOf left (now (now (nodes .entry))) at) r)
-        × (r / 1024 ≤ maxAmount → Settled left (now (now (nodes .entry))) at) ⌝ }
+        × (r / 1024 ≤ maxAmount → ClosedAt left (now (now (nodes .entry))) at) ⌝ }
 {
     let x = nodes::slot(nodes, at, 0);
     match x {
@@ -128,7 +128,7 @@ pub fn quick_plan(
     requires { ⌜ PlanReady left (now (now nodes)) at × Near left (low .0) (high .0) × InBounds (now (now bounds)) × (natOf (high .0) ≤ maxMonths) ⌝ }
     ensures { λ r. ⌜ (r / 1024 ≤ beyond) × ((t : Table) (a z : ℕ) → Seen (low .0) (high .0) (length (now (now (bounds .entry)))) t a z
         → SureOf t a z (boundIn (now (now (bounds .entry)))) need (high .0) (planAt natOf left (now (now (nodes .entry))) at) r)
-        × (r / 1024 ≤ maxAmount → Settled left (now (now (nodes .entry))) at) ⌝ }
+        × (r / 1024 ≤ maxAmount → ClosedAt left (now (now (nodes .entry))) at) ⌝ }
 {
     let letter = node::plan_kind(nodes, at);
     match letter {

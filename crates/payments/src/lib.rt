@@ -295,6 +295,87 @@ fn long_payment(
     )
 }
 
+// By the number of the text's letters.
+fn payment_sized(
+    text: &[u8],
+    days: &[i64],
+    span: Span,
+    factors: &[i64],
+    bounds: &[i64],
+    values: &[i64],
+    today: Month,
+    pair: Pair,
+    month: Month,
+) -> Paying
+    ensures { λ r. ⌜ payingAnswer r ≡ paymentCall (now (text .entry))
+        (givenOf (now (days .entry)) (span .h) (span .f) (now (factors .entry)) (now (bounds .entry)) (now (values .entry))) (today .0) (pair .p) (pair .q) (month .0) ⌝ }
+{
+    let letters = text::room::letters_at_most(text);
+    if letters < 24 {
+        return tiny_payment(
+            text,
+            days,
+            span,
+            factors,
+            bounds,
+            values,
+            today,
+            pair,
+            month,
+        );
+    }
+    if letters < 48 {
+        return small_payment(
+            text,
+            days,
+            span,
+            factors,
+            bounds,
+            values,
+            today,
+            pair,
+            month,
+        );
+    }
+    if letters < 96 {
+        return brief_payment(
+            text,
+            days,
+            span,
+            factors,
+            bounds,
+            values,
+            today,
+            pair,
+            month,
+        );
+    }
+    if letters < 192 {
+        return short_payment(
+            text,
+            days,
+            span,
+            factors,
+            bounds,
+            values,
+            today,
+            pair,
+            month,
+        );
+    }
+    long_payment(
+        text,
+        days,
+        span,
+        factors,
+        bounds,
+        values,
+        today,
+        pair,
+        month,
+    )
+}
+
 // The pence that p pays q in a month from today to f, the plan's root in month today; or the refusal.
 pub fn payment(
     text: &[u8],
@@ -312,70 +393,15 @@ pub fn payment(
     ensures { λ r. ⌜ payingAnswer r ≡ paymentCall (now (text .entry))
         (givenOf (now (days .entry)) h f (now (factors .entry)) (now (bounds .entry)) (now (values .entry))) today p q month ⌝ }
 {
-    let span = Span { h: h, f: f };
-    let pair = Pair { p: p, q: q };
-    let letters = text::room::letters_at_most(text);
-    if letters < 24 {
-        return tiny_payment(
-            text,
-            days,
-            span,
-            factors,
-            bounds,
-            values,
-            Month(today),
-            pair,
-            Month(month),
-        );
-    }
-    if letters < 48 {
-        return small_payment(
-            text,
-            days,
-            span,
-            factors,
-            bounds,
-            values,
-            Month(today),
-            pair,
-            Month(month),
-        );
-    }
-    if letters < 96 {
-        return brief_payment(
-            text,
-            days,
-            span,
-            factors,
-            bounds,
-            values,
-            Month(today),
-            pair,
-            Month(month),
-        );
-    }
-    if letters < 192 {
-        return short_payment(
-            text,
-            days,
-            span,
-            factors,
-            bounds,
-            values,
-            Month(today),
-            pair,
-            Month(month),
-        );
-    }
-    long_payment(
+    payment_sized(
         text,
         days,
-        span,
+        Span { h: h, f: f },
         factors,
         bounds,
         values,
         Month(today),
-        pair,
+        Pair { p: p, q: q },
         Month(month),
     )
 }
@@ -665,6 +691,39 @@ fn long_step(
     )
 }
 
+// By the number of the text's letters.
+fn step_sized(
+    text: &[u8],
+    days: &[i64],
+    span: Span,
+    factors: &[i64],
+    bounds: &[i64],
+    values: &[i64],
+    today: Month,
+    pair: Pair,
+    out: &mut [u8],
+) -> Stepping
+    ensures { λ r. ⌜ (now (out .exit) ≡ stepCall (now (text .entry))
+        (givenOf (now (days .entry)) (span .h) (span .f) (now (factors .entry)) (now (bounds .entry)) (now (values .entry))) (today .0) (pair .p) (pair .q) (now (out .entry)) .buffer)
+        × (steppingAnswer r ≡ stepCall (now (text .entry))
+        (givenOf (now (days .entry)) (span .h) (span .f) (now (factors .entry)) (now (bounds .entry)) (now (values .entry))) (today .0) (pair .p) (pair .q) (now (out .entry)) .answer) ⌝ }
+{
+    let letters = text::room::letters_at_most(text);
+    if letters < 24 {
+        return tiny_step(text, days, span, factors, bounds, values, today, pair, out);
+    }
+    if letters < 48 {
+        return small_step(text, days, span, factors, bounds, values, today, pair, out);
+    }
+    if letters < 96 {
+        return brief_step(text, days, span, factors, bounds, values, today, pair, out);
+    }
+    if letters < 192 {
+        return short_step(text, days, span, factors, bounds, values, today, pair, out);
+    }
+    long_step(text, days, span, factors, bounds, values, today, pair, out)
+}
+
 // The pence that p pays q today, and the plan for tomorrow from the first byte of `out` on; a refusal leaves every byte as it was.
 // Demand 3 of document 01 is this contract with the theorem `guarantee` (language, proofs/Guarantee): whatever list of calls that
 // answer as `stepCall` does, schedule, value and roll-forward of the accepted plan agree.
@@ -686,65 +745,11 @@ pub fn step(
         × (steppingAnswer r ≡ stepCall (now (text .entry))
         (givenOf (now (days .entry)) h f (now (factors .entry)) (now (bounds .entry)) (now (values .entry))) today p q (now (out .entry)) .answer) ⌝ }
 {
-    let span = Span { h: h, f: f };
     let parties = Pair { p: p, q: q };
-    let letters = text::room::letters_at_most(text);
-    if letters < 24 {
-        return tiny_step(
-            text,
-            days,
-            span,
-            factors,
-            bounds,
-            values,
-            Month(today),
-            parties,
-            out,
-        );
-    }
-    if letters < 48 {
-        return small_step(
-            text,
-            days,
-            span,
-            factors,
-            bounds,
-            values,
-            Month(today),
-            parties,
-            out,
-        );
-    }
-    if letters < 96 {
-        return brief_step(
-            text,
-            days,
-            span,
-            factors,
-            bounds,
-            values,
-            Month(today),
-            parties,
-            out,
-        );
-    }
-    if letters < 192 {
-        return short_step(
-            text,
-            days,
-            span,
-            factors,
-            bounds,
-            values,
-            Month(today),
-            parties,
-            out,
-        );
-    }
-    long_step(
+    step_sized(
         text,
         days,
-        span,
+        Span { h: h, f: f },
         factors,
         bounds,
         values,

@@ -464,6 +464,36 @@ fn long_evaluate(
     )
 }
 
+// By the number of the text's letters.
+fn evaluate_sized(
+    text: &[u8],
+    days: &[i64],
+    span: Span,
+    factors: &[i64],
+    bounds: &[i64],
+    values: &[i64],
+    month: Month,
+    pair: Pair,
+) -> Evaluating
+    ensures { λ r. ⌜ evaluatingAnswer r ≡ evaluateCall (now (text .entry))
+        (givenOf (now (days .entry)) (span .h) (span .f) (now (factors .entry)) (now (bounds .entry)) (now (values .entry))) (pair .p) (pair .q) (month .0) ⌝ }
+{
+    let letters = text::room::letters_at_most(text);
+    if letters < 24 {
+        return tiny_evaluate(text, days, span, factors, bounds, values, month, pair);
+    }
+    if letters < 48 {
+        return small_evaluate(text, days, span, factors, bounds, values, month, pair);
+    }
+    if letters < 96 {
+        return brief_evaluate(text, days, span, factors, bounds, values, month, pair);
+    }
+    if letters < 192 {
+        return short_evaluate(text, days, span, factors, bounds, values, month, pair);
+    }
+    long_evaluate(text, days, span, factors, bounds, values, month, pair)
+}
+
 // What a payoff is worth to the pair (p, q) in millionths of a penny, `month` being the month now, or the refusal.
 pub fn evaluate(
     text: &[u8],
@@ -480,65 +510,14 @@ pub fn evaluate(
     ensures { λ r. ⌜ evaluatingAnswer r ≡ evaluateCall (now (text .entry))
         (givenOf (now (days .entry)) h f (now (factors .entry)) (now (bounds .entry)) (now (values .entry))) p q month ⌝ }
 {
-    let span = Span { h: h, f: f };
-    let pair = Pair { p: p, q: q };
-    let letters = text::room::letters_at_most(text);
-    if letters < 24 {
-        return tiny_evaluate(
-            text,
-            days,
-            span,
-            factors,
-            bounds,
-            values,
-            Month(month),
-            pair,
-        );
-    }
-    if letters < 48 {
-        return small_evaluate(
-            text,
-            days,
-            span,
-            factors,
-            bounds,
-            values,
-            Month(month),
-            pair,
-        );
-    }
-    if letters < 96 {
-        return brief_evaluate(
-            text,
-            days,
-            span,
-            factors,
-            bounds,
-            values,
-            Month(month),
-            pair,
-        );
-    }
-    if letters < 192 {
-        return short_evaluate(
-            text,
-            days,
-            span,
-            factors,
-            bounds,
-            values,
-            Month(month),
-            pair,
-        );
-    }
-    long_evaluate(
+    evaluate_sized(
         text,
         days,
-        span,
+        Span { h: h, f: f },
         factors,
         bounds,
         values,
         Month(month),
-        pair,
+        Pair { p: p, q: q },
     )
 }

@@ -25,7 +25,7 @@ use Rattle.measures.proofs.SameReads.{same-plan}
 use Rattle.measures.specs.Ready.{PlanReady}
 use Rattle.nodes.specs.Found.{planAt}
 use Rattle.nodes.specs.Table.{natOf}
-use Rattle.rules.proofs.Filling.{fill-formed, set-is, settled-set, stands-filled, stands-settled, walked}
+use Rattle.rules.proofs.Filling.{closed-set, fill-formed, set-is, stands-closed, stands-filled, walked}
 use Rattle.rules.specs.Accepting.{AcceptIs, accepting}
 use Rattle.rules.specs.Answers.{Natural, checkingAnswer, givenOf}
 use Rattle.rules.specs.Measured.{InTable, checkedOf, measuredBy}
@@ -135,4 +135,4 @@ module _ (days : List ℤ) (h f : ℤ) (factors bounds values : List ℤ) (today
 module _ (days : List ℤ) (h f : ℤ) (factors bounds values : List ℤ) (today : ℤ) (ok : Bool) (count : ℕ) (nodes : List ℤ)
     (t : tableOk (tableOf h f factors bounds values) ≡ true) (m : monthOk (tableOf h f factors bounds values) today && ok ≡ true) (e : settingsOk days ≡ true) where
   pub accept-kept : (l : Month) (p : Pence) → QuickIs h f bounds (natOf today) nodes (Kept l p) → AcceptIs (givenOf days h f factors bounds values) today ok count nodes nodes (Accepted l p)
-  accept-kept l p k = accept-stands days h f factors bounds values today ok count nodes nodes t m e (λ x s. (settled-set s (k .2) days, stands-settled s (k .2) days)) (k .0) (k .1)
+  accept-kept l p k = accept-stands days h f factors bounds values today ok count nodes nodes t m e (λ x s. (closed-set s (k .2) days, stands-closed s (k .2) days)) (k .0) (k .1)

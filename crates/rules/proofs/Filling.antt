@@ -21,7 +21,7 @@ use Rattle.language.specs.Text.Reader.{end}
 use Rattle.language.specs.Text.Trees.{Delay, Plan, months, setting}
 use Rattle.measures.proofs.FilledReady.{filled-found, open-found}
 use Rattle.measures.specs.Ready.{PlanReady}
-use Rattle.measures.specs.Settled.{Settled}
+use Rattle.measures.specs.Closed.{ClosedAt}
 use Rattle.nodes.proofs.AmountsFound.{Finds}
 use Rattle.nodes.proofs.Counts.{count-plan, plan-rows}
 use Rattle.nodes.proofs.Laid.{Laid, rows-length}
@@ -59,18 +59,18 @@ module _ {nodes : List ℤ} {count : ℕ} {x : Plan Delay} (s : Standing nodes c
   standing-ready = open-found nodes x end 0 32 laid (s .formed .fields) (s .formed .depth) (omega arith) .safe
 
   -- without open settings there is nothing to fill
-  module _ (c : Settled 32 nodes 0) (days : List ℤ) where
+  module _ (c : ClosedAt 32 nodes 0) (days : List ℤ) where
     as-found : closed (planAt natOf 32 nodes 0) ≡ x
     as-found = c .is ∙ plan-found nodes x end 0 32 laid (s .formed .fields) (s .formed .depth) (omega arith) .is
 
-    pub settled-set : allSet days x ≡ true
-    settled-set = ap (allSet days) (sym as-found) ∙ set-closed days (planAt natOf 32 nodes 0)
+    pub closed-set : allSet days x ≡ true
+    closed-set = ap (allSet days) (sym as-found) ∙ set-closed days (planAt natOf 32 nodes 0)
 
     same-filled : x ≡ closed (fill (settingAt days) x)
     same-filled = sym as-found ∙ ap closed (sym (fill-closed (settingAt days) (planAt natOf 32 nodes 0)) ∙ ap (fill (settingAt days)) as-found)
 
-    pub stands-settled : Standing nodes count (closed (fill (settingAt days) x))
-    stands-settled = subst (Standing nodes count) same-filled s
+    pub stands-closed : Standing nodes count (closed (fill (settingAt days) x))
+    stands-closed = subst (Standing nodes count) same-filled s
 
   module _ (days : List ℤ) where
     pub set-is : allRows (rowSet days) count nodes ≡ allSet days x

@@ -247,6 +247,35 @@ fn long_check(
     check_in(text, &mut nodes, days, span, factors, bounds, values, today)
 }
 
+// By the number of the text's letters.
+fn check_sized(
+    text: &[u8],
+    days: &[i64],
+    span: Span,
+    factors: &[i64],
+    bounds: &[i64],
+    values: &[i64],
+    today: Month,
+) -> Checking
+    ensures { λ r. ⌜ (checkingAnswer r ≡ checkCall (now (text .entry))
+        (givenOf (now (days .entry)) (span .h) (span .f) (now (factors .entry)) (now (bounds .entry)) (now (values .entry))) (today .0)) × Natural r ⌝ }
+{
+    let letters = text::room::letters_at_most(text);
+    if letters < 24 {
+        return tiny_check(text, days, span, factors, bounds, values, today);
+    }
+    if letters < 48 {
+        return small_check(text, days, span, factors, bounds, values, today);
+    }
+    if letters < 96 {
+        return brief_check(text, days, span, factors, bounds, values, today);
+    }
+    if letters < 192 {
+        return short_check(text, days, span, factors, bounds, values, today);
+    }
+    long_check(text, days, span, factors, bounds, values, today)
+}
+
 // Whether a plan is accepted with its root in month today: its length and magnitude, or the refusal.
 pub fn check(
     text: &[u8],
@@ -261,19 +290,13 @@ pub fn check(
     ensures { λ r. ⌜ (checkingAnswer r ≡ checkCall (now (text .entry))
         (givenOf (now (days .entry)) h f (now (factors .entry)) (now (bounds .entry)) (now (values .entry))) today) × Natural r ⌝ }
 {
-    let span = Span { h: h, f: f };
-    let letters = text::room::letters_at_most(text);
-    if letters < 24 {
-        return tiny_check(text, days, span, factors, bounds, values, Month(today));
-    }
-    if letters < 48 {
-        return small_check(text, days, span, factors, bounds, values, Month(today));
-    }
-    if letters < 96 {
-        return brief_check(text, days, span, factors, bounds, values, Month(today));
-    }
-    if letters < 192 {
-        return short_check(text, days, span, factors, bounds, values, Month(today));
-    }
-    long_check(text, days, span, factors, bounds, values, Month(today))
+    check_sized(
+        text,
+        days,
+        Span { h: h, f: f },
+        factors,
+        bounds,
+        values,
+        Month(today),
+    )
 }

@@ -1,6 +1,5 @@
 -- Laws of evaluation.
 pub mod Bounds
-pub mod Codes
 pub mod FourWaits
 pub mod LeafLaws
 pub mod WaitLoop

@@ -3,7 +3,7 @@ use Rattle.measures.proofs.PlanMeasures as plain
 use Rattle.measures.proofs.PlanReadings as offsets
 use Rattle.measures.proofs.PlanRows as rows
 use Rattle.measures.proofs.Plans as plans
-use Rattle.measures.proofs.SettledPlans as settled
+use Rattle.measures.proofs.ClosedPlans as closing
 use Rattle.measures.proofs.SurePlans as sure
 use borrow.Author.Needs.{needs}
 use mathlib.Core.Path.{_∙_, ap, refl, sym}
@@ -78,13 +78,13 @@ quick-part-returns : (t : ℕ) → quick-part-lts.Need-returns (quick-part-calls
 quick-part-returns t c =
     let h = c .before .before .before .pre .1 .0 in
     let g : SFits w64 (c .before .before .slot .result) = search needs in
-    (c .quick-transfer .ensures .0, λ table a z s. sure.sure-given table a z _ (plain.transfer-is h refl (plans.transfer-key g (c .before .before .slot .ensures) (c .before .match .keys1))) (c .quick-transfer .ensures .1 table a z _ _ _), λ i. settled.transfer-settled h refl (plans.transfer-key g (c .before .before .slot .ensures) (c .before .match .keys1)))
+    (c .quick-transfer .ensures .0, λ table a z s. sure.sure-given table a z _ (plain.transfer-is h refl (plans.transfer-key g (c .before .before .slot .ensures) (c .before .match .keys1))) (c .quick-transfer .ensures .1 table a z _ _ _), λ i. closing.transfer-closed h refl (plans.transfer-key g (c .before .before .slot .ensures) (c .before .match .keys1)))
 
 quick-part-returns-2 : (t : ℕ) → quick-part-lts.Need-returns-2 (quick-part-calls t) (quick-part-at t) quick-part.Post
 quick-part-returns-2 t c =
     let h = c .before .before .before .pre .1 .0 in
     let g : SFits w64 (c .before .before .slot .result) = search needs in
-    (c .quick-nothing .ensures .0, λ table a z s. sure.sure-given table a z _ (plain.nothing-is h refl (plans.nothing-key g (c .before .before .slot .ensures) (c .before .match .keys2))) (c .quick-nothing .ensures .1 table a z _ _), λ i. settled.nothing-settled h refl (plans.nothing-key g (c .before .before .slot .ensures) (c .before .match .keys2)))
+    (c .quick-nothing .ensures .0, λ table a z s. sure.sure-given table a z _ (plain.nothing-is h refl (plans.nothing-key g (c .before .before .slot .ensures) (c .before .match .keys2))) (c .quick-nothing .ensures .1 table a z _ _), λ i. closing.nothing-closed h refl (plans.nothing-key g (c .before .before .slot .ensures) (c .before .match .keys2)))
 
 quick-part-returns-3 : (t : ℕ) → quick-part-lts.Need-returns-3 (quick-part-calls t) (quick-part-at t) quick-part.Post
 quick-part-returns-3 t c = c .quick-plan .ensures
@@ -172,7 +172,7 @@ quick-plan-returns t c =
       λ table a z s. sure.sure-given table a z _ (plain.scale-is h k q (c .before .before .before .before .before .before .before .before .before .link .ensures))
           (sure.scale-sure table a z _ _ _ f l (rows.scale-window h k (c .before .before .before .before .before .before .before .before .before .link .ensures) s (c .before .before .before .before .before .before .before .before .window-of .ensures) (c .before .before .before .before .before .before .read-rows .ensures .1) q) (c .before .before .before .before .before .if1 .taken) (c .before .before .before .amount-of .ensures) (c .before .before .later-of .ensures)
           (c .before .quick-part .ensures .1 table a z s) (c .scaled .ensures .0) (c .scaled .ensures .1)),
-      λ i. settled.scale-settled h k q (c .before .before .before .before .before .before .before .before .before .link .ensures) (c .before .quick-part .ensures .2 (sure.joined-parts _*_ (c .before .before .before .amount-of .result) (c .before .quick-part .result / 1024) (omega (arith, c .scaled .ensures .0, i)) .1)),
+      λ i. closing.scale-closed h k q (c .before .before .before .before .before .before .before .before .before .link .ensures) (c .before .quick-part .ensures .2 (sure.joined-parts _*_ (c .before .before .before .amount-of .result) (c .before .quick-part .result / 1024) (omega (arith, c .scaled .ensures .0, i)) .1)),
     )
 
 quick-plan-is-open-requires : (t : ℕ) → quick-plan-lts.Need-is-open-requires (quick-plan-calls t) (quick-plan-at t) quick-plan.Post
@@ -396,7 +396,7 @@ quick-plan-returns-4 t c =
           (rows.within-window h k (c .before .before .before .before .before .before .before .before .before .before .before .before .before .link3 .ensures) w (c .before .before .before .before .before .before .before .before .before .before .before .window-of2 .ensures) (c .before .before .before .before .before .before .before .before .before .read-rows2 .ensures .1) q) (c .before .before .before .before .before .before .before .before .if4 .taken) (c .before .before .before .before .test-of .ensures) (c .before .before .before .if6 .taken) (c .before .before .before .before .before .before .before .tried-in-time .ensures) (c .before .before .before .before .before .before .if5 .taken)
           (c .before .before .quick-part5 .ensures .1 _ _ _ w) (c .before .quick-part6 .ensures .1 _ _ _ (offsets.seen-later s (c .before .before .before .before .before .before .before .before .before .before .before .before .before .before .before .before .delay2 .ensures) (c .before .before .before .before .before .before .before .before .before .before .before .before .before .before .before .nearer3 .ensures) (c .before .before .before .before .before .before .before .before .before .before .before .before .before .before .nearer4 .ensures))) (c .either .ensures .0) (c .either .ensures .1)),
       λ i.
-          settled.within-settled h k (sym (c .before .before .before .before .before .before .before .before .before .before .before .before .before .before .before .before .before .before .is-open2 .ensures) ∙ c .before .before .before .before .before .before .before .before .before .before .before .before .before .before .before .before .before .if3 .left) q (c .before .before .before .before .before .before .before .before .before .before .before .before .before .link3 .ensures) (c .before .before .before .before .before .before .before .before .before .before .before .before .link4 .ensures)
+          closing.within-closed h k (sym (c .before .before .before .before .before .before .before .before .before .before .before .before .before .before .before .before .before .before .is-open2 .ensures) ∙ c .before .before .before .before .before .before .before .before .before .before .before .before .before .before .before .before .before .if3 .left) q (c .before .before .before .before .before .before .before .before .before .before .before .before .before .link3 .ensures) (c .before .before .before .before .before .before .before .before .before .before .before .before .link4 .ensures)
           (c .before .before .quick-part5 .ensures .2 (omega (arith, c .either .ensures .0, i))) (c .before .quick-part6 .ensures .2 (omega (arith, c .either .ensures .0, i))),
     )
 
@@ -405,14 +405,14 @@ quick-plan-returns-5 t c =
     let h = c .before .before .before .before .pre .1 .0 in
     let k = c .before .before .before .plan-kind .ensures in
     let q = c .before .enum-told .given .1 in
-    (c .quick-nothing .ensures .0, λ table a z s. sure.sure-given table a z _ (plain.nothing-is h k q) (c .quick-nothing .ensures .1 table a z _ _), λ i. settled.nothing-settled h k q)
+    (c .quick-nothing .ensures .0, λ table a z s. sure.sure-given table a z _ (plain.nothing-is h k q) (c .quick-nothing .ensures .1 table a z _ _), λ i. closing.nothing-closed h k q)
 
 quick-plan-returns-6 : (t : ℕ) → quick-plan-lts.Need-returns-6 (quick-plan-calls t) (quick-plan-at t) quick-plan.Post
 quick-plan-returns-6 t c =
     let h = c .before .before .before .before .pre .1 .0 in
     let k = c .before .before .before .plan-kind .ensures in
     let q = c .before .enum-told2 .given .1 in
-    (c .quick-transfer .ensures .0, λ table a z s. sure.sure-given table a z _ (plain.transfer-is h k q) (c .quick-transfer .ensures .1 table a z _ _ _), λ i. settled.transfer-settled h k q)
+    (c .quick-transfer .ensures .0, λ table a z s. sure.sure-given table a z _ (plain.transfer-is h k q) (c .quick-transfer .ensures .1 table a z _ _ _), λ i. closing.transfer-closed h k q)
 
 quick-plan-returns-7 : (t : ℕ) → quick-plan-lts.Need-returns-7 (quick-plan-calls t) (quick-plan-at t) quick-plan.Post
 quick-plan-returns-7 t c = (omega arith, λ table a z s. sure.unsure table a z _ _ _ _ (omega arith), λ i. absurd (omega (arith, i)))
@@ -429,7 +429,7 @@ quick-plan-returns-8 t c =
           sure.sure-given table a z _ (plain.later-is h k q refl)
           (sure.later-sure table a z _ (plans.later-ready h k q .0) i (c .before .before .before .before .before .delay .ensures) (c .before .before .before .nearer2 .ensures) _ (c .before .needed .ensures ∙ ap (λ n. c .before .before .before .before .before .before .before .before .before .before .before .args .need - n) (c .before .before .months .ensures))
           (c .quick-part2 .ensures .1 _ _ _ (offsets.seen-later s (c .before .before .before .before .before .delay .ensures) (c .before .before .before .before .nearer .ensures) (c .before .before .before .nearer2 .ensures)))),
-      λ i. settled.later-settled h k (sym (c .before .before .before .before .before .before .before .is-open .ensures) ∙ c .before .before .before .before .before .before .if2 .left) q (c .quick-part2 .ensures .2 i),
+      λ i. closing.later-closed h k (sym (c .before .before .before .before .before .before .before .is-open .ensures) ∙ c .before .before .before .before .before .before .if2 .left) q (c .quick-part2 .ensures .2 i),
     )
 
 quick-plan-returns-9 : (t : ℕ) → quick-plan-lts.Need-returns-9 (quick-plan-calls t) (quick-plan-at t) quick-plan.Post
@@ -443,7 +443,7 @@ quick-plan-returns-9 t c =
           sure.sure-given table a z _ (plain.both-is h k q (c .before .before .before .link2 .ensures)) (sure.both-sure table a z _ _ _ f (c .before .before .quick-part3 .ensures .1 table a z s) (c .before .quick-part4 .ensures .1 table a z s) (c .added .ensures .0) (c .added .ensures .1)),
       λ i.
           let j = sure.joined-parts _+_ (c .before .before .quick-part3 .result / 1024) (c .before .quick-part4 .result / 1024) (omega (arith, c .added .ensures .0, i)) in
-          settled.both-settled h k q (c .before .before .before .link2 .ensures) (c .before .before .quick-part3 .ensures .2 (j .0)) (c .before .quick-part4 .ensures .2 (j .1)),
+          closing.both-closed h k q (c .before .before .before .link2 .ensures) (c .before .before .quick-part3 .ensures .2 (j .0)) (c .before .quick-part4 .ensures .2 (j .1)),
     )
 
 quick-plan-returns-10 : (t : ℕ) → quick-plan-lts.Need-returns-10 (quick-plan-calls t) (quick-plan-at t) quick-plan.Post

@@ -5,8 +5,9 @@ use mir.Facts.{toZ-ofZ}
 use native.Mathlib.Omega.{arith}
 use Rattle.integers.proofs.Locals.{value-fits}
 use Rattle.language.specs.Answer.{refused}
+use Rattle.language.specs.Limits.{maxValue}
 use Rattle.text.specs.Refusals.{numberOf}
-use Rattle.worths.proofs.Codes.{stands-beyond, stands-unread, stands-value}
+use Rattle.checked.proofs.Codes.{stands-beyond, stands-unread, stands-value}
 use Rattle.worths.specs.Answers.{worthAnswer}
 use Rattle.worths.specs.Coded.{codedWorth}
 use Rattle.worths.proofs.coded.code.Statement.{statement}
@@ -25,18 +26,18 @@ returns : tie.Need-returns
 returns c =
     let e = ap worthAnswer (c .before .before .w .given .1) in
     let s = c .before .before .before .before .pre .value _ e in
-    ap codedWorth (toZ-ofZ (value-fits s)) ∙ stands-value _ (s .small) ∙ sym e
+    ap codedWorth (toZ-ofZ (value-fits s)) ∙ stands-value maxValue _ (s .small) ∙ sym e
 
 returns-2 : tie.Need-returns-2
 returns-2 c =
     let e = ap worthAnswer (c .before .before .before .w2 .given .1) in
-    stands-unread _ refl ∙ ap refused (sym (c .if1 .taken) ∙ c .before .number-of .ensures) ∙ sym e
+    stands-unread maxValue _ refl ∙ ap refused (sym (c .if1 .taken) ∙ c .before .number-of .ensures) ∙ sym e
 
 returns-3 : tie.Need-returns-3
 returns-3 c =
     let e = ap worthAnswer (c .before .before .before .w2 .given .1) in
     let n : numberOf (c .before .before .before .w2 .given .0 .0) ≡ 14 = ⊎-elim (λ z. absurd (c .if1 .left (c .before .number-of .ensures ∙ z))) (λ z. z) (c .before .before .before .before .before .pre .refusal _ e) in
-    stands-beyond _ (omega arith) (λ z. omega (arith, z)) ∙ ap refused (sym n) ∙ sym e
+    stands-beyond maxValue _ (omega arith) (λ z. omega (arith, z)) ∙ ap refused (sym n) ∙ sym e
 
 pub code-spec : {M : Type 1} → statement M
 code-spec =

@@ -14,8 +14,9 @@ use Rattle.checked.specs.Coded.{valuedIn}
 use lib.IntN.{ℤ}
 use Rattle.integers.specs.Bounded.{SmallValue}
 use Rattle.language.specs.Answer.{Answer, refused}
+use Rattle.language.specs.Limits.{maxValue}
 use Rattle.text.specs.Refusals.{numberOf}
-use Rattle.worths.proofs.Codes.{stands-value}
+use Rattle.checked.proofs.Codes.{stands-value}
 use Rattle.worths.specs.Answers.{worthAnswer}
 use Rattle.checked.specs.Evaluated.{Evaluated}
 use Rattle.worths.specs.Coded.{codedWorth}
@@ -304,7 +305,7 @@ payoff-code-returns t c =
     let s = c .before .before .before in
     let a = s .args in
     let n = payoff-code-here t (c .before .before) letter.Nil (c .enum-told .given .1) in
-    stands-value _ (omega arith) ∙ arms.nil-arm (a .h .0) (a .f .0) (a .factors .now .now) (a .bounds .now .now) (a .values .now .now) (a .pair .p) (a .pair .q) _ _ _ _ _ n
+    stands-value maxValue _ (omega arith) ∙ arms.nil-arm (a .h .0) (a .f .0) (a .factors .now .now) (a .bounds .now .now) (a .values .now .now) (a .pair .p) (a .pair .q) _ _ _ _ _ n
 
 payoff-code-returns-2 : (t : ℕ) → payoff-code-lts.Need-returns-2 (payoff-code-calls t) (payoff-code-at t) payoff-code.Post
 payoff-code-returns-2 t c =
@@ -354,7 +355,7 @@ payoff-code-returns-9 t c =
     let s = c .before .before .before in
     let a = s .args in
     let n = payoff-code-here t (c .before .before) letter.NoPayoff (c .enum-told7 .given .1) in
-    stands-value _ (omega arith) ∙ arms.no-payoff-arm (a .h .0) (a .f .0) (a .factors .now .now) (a .bounds .now .now) (a .values .now .now) (a .pair .p) (a .pair .q) _ _ _ _ _ n
+    stands-value maxValue _ (omega arith) ∙ arms.no-payoff-arm (a .h .0) (a .f .0) (a .factors .now .now) (a .bounds .now .now) (a .values .now .now) (a .pair .p) (a .pair .q) _ _ _ _ _ n
 
 payoff-code-part : {M : Type 1} (t : ℕ) → payoff-code-lts.Closed (payoff-code-calls t) (payoff-code-at t) payoff-code.Post M
 payoff-code-part t =

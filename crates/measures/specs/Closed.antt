@@ -9,5 +9,5 @@ use mathlib.Core.List.{List}
 use mathlib.Core.Path.{_≡_}
 
 -- each delay of the plan at a node is a number of months: the plan found with its delays as numbers is the one that stands there
-pub record Settled (left : ℕ) (nodes : List ℤ) (at : ℕ) : Type 0 where
+pub record ClosedAt (left : ℕ) (nodes : List ℤ) (at : ℕ) : Type 0 where
   pub is : closed (planAt natOf left nodes at) ≡ planAt delayFrom left nodes at
