@@ -84,13 +84,15 @@ compared low high x r w f g k true e h true d = le-leb r w (omega (arith, le-tru
 compared low high x r w f g k true e h false d = lt-leb r w (omega (arith, le-false x high d))
 compared low high x r w f g k false e h d l = lt-leb r w (omega (arith, fits-below high f, fits-above x g))
 
--- ---- a range's first word, and the room above its last up to the greatest word whose first bit is 0
-pub record Ends (low high : ℤ) (first room : ℕ) : Type 0 where
+-- ---- a range's first word, how far its last lies above that, and how far beyond the greatest word whose first bit is 0
+pub record Ends (low high : ℤ) (first width over : ℕ) : Type 0 where
   pub lowFits : SFits w64 low
   pub highFits : SFits w64 high
   pub firstIs : first ≡ wordOf low
-  pub roomSmall : room ≤ 9223372036854775807
-  pub across : 9223372036854775807 - room + up low + dn high ≡ up high + dn low
+  pub widthSmall : width ≤ 9223372036854775807
+  pub across : width + up low + dn high ≡ up high + dn low
+  pub overFits : over < 18446744073709551616
+  pub overIs : (over + 9223372036854775807) % 18446744073709551616 ≡ width
 
 up-near : (x : ℤ) → up x ≤ natAbs x
 up-near (pos a) = omega arith
@@ -107,31 +109,30 @@ module _ (low high : ℤ) {l m w : ℕ} (f : SFits w64 low) (g : SFits w64 high)
       let p = apart low high w f g wb (rw (lw ∙ ap wordOf (toZ-ofZ f)) at we ∙ mw ∙ ap wordOf (toZ-ofZ g)) true (n .0) in
       omega (arith, p)
 
-  pub width-small : w ≤ 9223372036854775807
-  width-small = omega (arith, width, up-near high, dn-near low, n .1, n .2)
-
-  pub ends : Ends low high l (9223372036854775807 - w)
-  ends = record { lowFits = f; highFits = g; firstIs = lw ∙ ap wordOf (toZ-ofZ f); roomSmall = omega arith; across = omega (arith, width, width-small) }
+  pub ends : {o : ℕ} → o < 18446744073709551616 → (o + 9223372036854775807) % 18446744073709551616 ≡ w → Ends low high l w o
+  ends ob oe =
+      record { lowFits = f; highFits = g; firstIs = lw ∙ ap wordOf (toZ-ofZ f); widthSmall = omega (arith, width, up-near high, dn-near low, n .1, n .2); across = width; overFits = ob; overIs = oe }
 
 -- a word whose first bit is 0
 abbrev pub clear : ℕ → Bool
 clear a = leb a 9223372036854775807
 
--- y at most w, by the first bits of y and of y and the room above w
-halves : (y z w room : ℕ) → y < 18446744073709551616 → room ≤ 9223372036854775807 → w ≡ 9223372036854775807 - room → z ≡ (y + room) % 18446744073709551616
+-- y at most w, by the first bits of y and of what is left of it
+halves : (y z w over : ℕ) → y < 18446744073709551616 → z < 18446744073709551616 → over < 18446744073709551616 → w ≤ 9223372036854775807
+    → (over + 9223372036854775807) % 18446744073709551616 ≡ w → (z + over) % 18446744073709551616 ≡ y
     → (a b : Bool) → clear y ≡ a → clear z ≡ b → leb y w ≡ a && b
-halves y z w room h r e s true true p q = le-leb y w (omega (arith, leb-true y 9223372036854775807 p, leb-true z 9223372036854775807 q))
-halves y z w room h r e s true false p q = lt-leb y w (omega (arith, leb-true y 9223372036854775807 p, leb-false z 9223372036854775807 q))
-halves y z w room h r e s false b p q = lt-leb y w (omega (arith, leb-false y 9223372036854775807 p))
+halves y z w over h g o r e s true true p q = le-leb y w (omega (arith, leb-true y 9223372036854775807 p, leb-true z 9223372036854775807 q))
+halves y z w over h g o r e s true false p q = lt-leb y w (omega (arith, leb-true y 9223372036854775807 p, leb-false z 9223372036854775807 q))
+halves y z w over h g o r e s false b p q = lt-leb y w (omega (arith, leb-false y 9223372036854775807 p))
 
 -- a number lies in the range if neither word's first bit is set
-pub within : {low high : ℤ} {first room : ℕ} → Ends low high first room → (x : ℤ) {n y z : ℕ} → SFits w64 x
-    → n ≡ wordOf (rd x) → y < 18446744073709551616 → (y + first) % 18446744073709551616 ≡ n → z ≡ (y + room) % 18446744073709551616
+pub within : {low high : ℤ} {first width over : ℕ} → Ends low high first width over → (x : ℤ) {n y z : ℕ} → SFits w64 x
+    → n ≡ wordOf (rd x) → y < 18446744073709551616 → (y + first) % 18446744073709551616 ≡ n → z < 18446744073709551616 → (z + over) % 18446744073709551616 ≡ y
     → between low high x ≡ clear y && clear z
-within {low} {high} {first} {room} k x {n} {y} {z} f nw yb ye ze =
+within {low} {high} {first} {width} {over} k x {n} {y} {z} f nw yb ye zb ze =
     let q = apart low x y (k .lowFits) f yb (rw (k .firstIs) at ye ∙ nw ∙ ap wordOf (toZ-ofZ f)) (leZ low x) refl in
-    sym (compared low high x y (9223372036854775807 - room) (k .highFits) f (k .across) (leZ low x) refl q (leZ x high) refl)
-    ∙ halves y z (9223372036854775807 - room) room yb (k .roomSmall) refl ze _ _ refl refl
+    sym (compared low high x y width (k .highFits) f (k .across) (leZ low x) refl q (leZ x high) refl)
+    ∙ halves y z width over yb zb (k .overFits) (k .widthSmall) (k .overIs) ze _ _ refl refl
 
 -- ---- two words joined: the first bit is set where it is in one of them
 least-joined : (a b : ℕ) → a ≤ bitOr a b

@@ -41,25 +41,27 @@ fn word(x: i64) -> u64
 const LAST: u64 = 9_223_372_036_854_775_807;
 
 // Whether all numbers of two lists of one length lie in the range. A number's word less that of the range's first wraps to a great one
-// where the number lies below, and with `room` added to it where it lies above; a great word has its first bit set, and so has any that
-// it is joined with.
+// where the number lies below, and less `over` besides where it lies above; a great word has its first bit set, and so has any that it
+// is joined with.
 fn both_between(xs: &[i64], ys: &[i64], range: Range) -> bool
     requires { ⌜ Narrow (range .low) (range .high) × (length (now xs) ≡ length (now ys)) ⌝ }
     ensures { λ r. ⌜ r ≡ allOf (between (range .low) (range .high)) (now (xs .entry)) && allOf (between (range .low) (range .high)) (now (ys .entry)) ⌝ }
 {
     let first = word(range.low);
-    let room = LAST - std::num::wrapping_sub_u64(word(range.high), first);
+    let width = std::num::wrapping_sub_u64(word(range.high), first);
+    // Less this, the range's last is the greatest word whose first bit is 0. What is added in its place the compiler would first add to
+    // what `first` takes away, and then copy every number to have both sums of it.
+    let over = std::num::wrapping_sub_u64(width, LAST);
     let mut below = 0u64;
-    // the room's own first bit is 0
-    let mut above = room;
+    let mut above = 0u64;
     let mut i = 0;
     while i < xs.len() {
         let y = std::num::wrapping_sub_u64(word(xs[i]), first);
         below = below | y;
-        above = above | std::num::wrapping_add_u64(y, room);
+        above = above | std::num::wrapping_sub_u64(y, over);
         let z = std::num::wrapping_sub_u64(word(ys[i]), first);
         below = below | z;
-        above = above | std::num::wrapping_add_u64(z, room);
+        above = above | std::num::wrapping_sub_u64(z, over);
         i += 1;
     }
     (below | above) <= LAST
