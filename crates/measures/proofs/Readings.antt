@@ -62,7 +62,7 @@ ends true true h m true f g = rw (f refl, g refl) refl
 ends true true h m false f g = rw (f refl, and-false h) refl
 
 module _ {low high : ℤ} {labels : ℕ} {t : Table} {a z : ℕ} (s : Seen low high labels t a z) where
-  window-reads : (l : ℕ) (i : ℤ) → (readable t l (pos a +ℤ i) && readable t l (pos z +ℤ i)) ≡ inWindow (windowOf low high labels) l i
+  pub window-reads : (l : ℕ) (i : ℤ) → (readable t l (pos a +ℤ i) && readable t l (pos z +ℤ i)) ≡ inWindow (windowOf low high labels) l i
   window-reads l i =
       rw (s .least, s .greatest, s .labelled)
       (ends (ltb l (length (t .bounds))) (leZ (negℤ (t .h)) (pos a +ℤ i)) (leZ (pos a +ℤ i) (t .f)) (leZ (negℤ (t .h)) (pos z +ℤ i)) (leZ (pos z +ℤ i) (t .f))

@@ -14,7 +14,7 @@ use Rattle.integers.specs.declared.Pence.{Pence}
 use Rattle.language.proofs.Truth.{truth}
 use Rattle.language.specs.Answer.{_>>=_, _>>_, got, require}
 use Rattle.language.specs.Calls.{Given, acceptPlan, meetsRules}
-use Rattle.language.specs.Limits.{maxMonths}
+use Rattle.language.specs.Limits.{maxBack, maxMonths}
 use Rattle.language.specs.Rules.Settings.{allSet, closed, fill}
 use Rattle.language.specs.Rules.Table.{boundAt, monthOk, settingAt, settingsOk, tableOk}
 use Rattle.language.specs.Rules.Tests.{knownInTime, planReads, planSmall}
@@ -22,6 +22,7 @@ use Rattle.language.specs.Rules.Measures.{lengthOf}
 use Rattle.language.specs.Text.Number.{between}
 use Rattle.language.specs.Text.Trees.{Delay, Plan}
 use Rattle.measures.proofs.SameReads.{same-plan}
+use Rattle.measures.specs.Magnitudes.{InBounds}
 use Rattle.measures.specs.Ready.{PlanReady}
 use Rattle.nodes.specs.Found.{planAt}
 use Rattle.nodes.specs.Table.{natOf}
@@ -50,6 +51,21 @@ to-f : (f m : ℤ) → UpTo maxMonths f → between (pos 0) f m ≡ true → nat
 to-f (pos n) (pos k) u e = omega (arith, u .small, leb-true k n (both-true (leb 0 k) (leb k n) e .1))
 to-f (pos n) (negsuc k) u e = absurd (truth false e)
 to-f (negsuc n) m u e = absurd (u .natural)
+
+pub whole-month : (f today : ℤ) → between (pos 0) f today ≡ true → natOf today ≡ natAbs today
+whole-month f today m = in-months f today m .1
+
+-- a month of a table, and bounds
+pub in-span : {today h f : ℤ} {bounds : List ℤ} → UpTo maxBack h × UpTo maxMonths f → between (pos 0) f today ≡ true → InBounds bounds → InTable today h f bounds
+in-span {today} {h} {f} s m b = record {
+  todayFrom = in-months f today m .0;
+  todayTo = to-f f today (s .1) m;
+  hFrom = s .0 .natural;
+  hTo = s .0 .small;
+  fFrom = s .1 .natural;
+  fTo = s .1 .small;
+  bounded = b;
+}
 
 module _ (days : List ℤ) (h f : ℤ) (factors bounds values : List ℤ) (today : ℤ) (ok : Bool) (x : Plan Delay) where
   abbrev g : Given
@@ -90,17 +106,7 @@ module _ (days : List ℤ) (h f : ℤ) (factors bounds values : List ℤ) (today
           regroup true true true true = refl
 
   pub in-table : tableOk (g .table) ≡ true → monthOk (g .table) today ≡ true → InTable today h f bounds
-  in-table t m =
-      let s = span-holds h f factors bounds values t in
-      record {
-        todayFrom = in-months f today m .0;
-        todayTo = to-f f today (s .1) m;
-        hFrom = s .0 .natural;
-        hTo = s .0 .small;
-        fFrom = s .1 .natural;
-        fTo = s .1 .small;
-        bounded = record { within = truth _ (bounds-hold h f factors bounds values t) };
-      }
+  in-table t m = in-span (span-holds h f factors bounds values t) m (record { within = truth _ (bounds-hold h f factors bounds values t) })
 
 -- a refusal leaves nothing to be said of the table
 never-both : {A : Type 0} (k : Refusal) {l : Month} {m : Pence} → Refused k ≡ Accepted l m → A

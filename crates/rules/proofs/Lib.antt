@@ -3,3 +3,4 @@ pub mod Accepting
 pub mod Checks
 pub mod Filling
 pub mod Measuring
+pub mod Texts

@@ -1,14 +1,16 @@
 -- The rules of a filled plan, and what is then answered.
 use Prim.Native.Nat.{_≤_, ℕ}
 use lib.Dec.{T}
-use lib.IntN.{natAbs, ℤ}
+use lib.IntN.{natAbs, pos, ℤ}
 use lib.Signed.{nonNeg}
+use mathlib.Core.Bool.{Bool, _&&_}
 use mathlib.Core.List.{List, []}
 use Rattle.language.specs.Answer.{Answer, _>>_, got}
 use Rattle.language.specs.Calls.{Checked, meetsRules}
 use Rattle.language.specs.Limits.{maxBack, maxMonths}
 use Rattle.language.specs.Rules.Measures.{lengthOf, magnitudeOf}
 use Rattle.language.specs.Rules.Table.{Table, boundAt}
+use Rattle.language.specs.Text.Number.{between}
 use Rattle.language.specs.Text.Trees.{Plan}
 use Rattle.measures.specs.Magnitudes.{InBounds}
 use Rattle.tables.specs.Given.{tableOf}
@@ -30,3 +32,7 @@ pub record InTable (today h f : ℤ) (bounds : List ℤ) : Type 0 where
   pub fFrom : T (nonNeg f)
   pub fTo : natAbs f ≤ maxMonths
   pub bounded : InBounds bounds
+
+-- the rule for the months that a table covers
+abbrev pub spanOk : ℤ → ℤ → Bool
+spanOk h f = between (pos 0) (pos maxBack) h && between (pos 0) (pos maxMonths) f

@@ -1,14 +1,19 @@
 // The rules for a plan, in document 01's order.
 ghost use mathlib.Core.Path.{_≡_};
 ghost use Prim.Native.Nat.{_<_};
+ghost use mathlib.Core.Bool.{true};
 ghost use Rattle.language.specs.Calls.{checkCall};
+ghost use Rattle.language.specs.Rules.Table.{settingsOk};
+ghost use Rattle.language.specs.Text.Number.{between};
+ghost use lib.IntN.{pos};
 ghost use Rattle.measures.specs.Ready.{PlanReady};
 ghost use Rattle.nodes.specs.Found.{planAt};
 ghost use Rattle.nodes.specs.Table.{natOf};
+ghost use Rattle.one_pass.specs.Reads.{Short};
 ghost use Rattle.rules.specs.Accepting.{AcceptIs};
 ghost use Rattle.rules.specs.Answers.{Natural, checkingAnswer, givenOf};
-ghost use Rattle.rules.specs.Measured.{InTable, measuredBy};
-ghost use Rattle.rules.specs.Quick.{QuickIs};
+ghost use Rattle.rules.specs.Measured.{InTable, measuredBy, spanOk};
+ghost use Rattle.rules.specs.Quick.{QuickIs, ReadIs};
 ghost use Rattle.rules.specs.Standing.{Stands};
 ghost use Rattle.text.specs.Room.{Roomy, lettersIn};
 use integers::Month;
@@ -52,13 +57,13 @@ fn measure_in_order(nodes: &[i64], today: Month, span: Span, bounds: &[i64]) -> 
     }
 }
 
-// What the quick walk finds of a plan as it stands in the table: that it keeps every rule and has no open setting, or nothing sure.
+// What a quick walk finds of a plan: that it keeps every rule, or nothing sure.
 enum Quick {
     Kept(Month, Pence),
     Unsure,
 }
 
-// The rules of a plan by the quick walk alone.
+// The rules of a plan as it stands in the table, by the quick walk alone: one with an open setting is left.
 fn quick_measure(nodes: &[i64], today: Month, span: Span, bounds: &[i64]) -> Quick
     requires { ⌜ PlanReady 32 (now nodes) 0 × InTable (today .0) (span .h) (span .f) (now bounds) ⌝ }
     ensures { λ r. ⌜ QuickIs (span .h) (span .f) (now (bounds .entry)) (natOf (today .0)) (now (nodes .entry)) r ⌝ }
@@ -247,6 +252,55 @@ fn long_check(
     check_in(text, &mut nodes, days, span, factors, bounds, values, today)
 }
 
+// A short text measured as it is read. The factors and values are looked at where its plan keeps every rule.
+fn measure_read(
+    text: &[u8],
+    days: &[i64],
+    span: Span,
+    factors: &[i64],
+    bounds: &[i64],
+    values: &[i64],
+    today: Month,
+) -> Quick
+    requires { ⌜ Short (now text) × (settingsOk (now days) ≡ true) × (spanOk (span .h) (span .f) ≡ true) × (between (pos 0) (span .f) (today .0) ≡ true) ⌝ }
+    ensures { λ r. ⌜ ReadIs (now (text .entry))
+        (givenOf (now (days .entry)) (span .h) (span .f) (now (factors .entry)) (now (bounds .entry)) (now (values .entry))) (today .0) r ⌝ }
+{
+    let low = measures::reads::nearer(Month(0 - span.h), today);
+    let high = measures::reads::nearer(Month(span.f), today);
+    let found = one_pass::plan::plan_at(&text, 0, 32, low, high, 0, &bounds, &days);
+    let magnitude = found / 1048576;
+    if measures::limit::is_within(magnitude) & (found % 1024 == text.len() as u64 + 1) {
+        if tables::table_ok(span, factors, bounds, values) {
+            // high less the months that are left behind the plan's end
+            let length = measures::reads::nearer(high, Month((found / 1024 % 1024) as i64));
+            return Quick::Kept(length, Pence(magnitude as i64));
+        }
+    }
+    Quick::Unsure
+}
+
+// A text without a table for its nodes: most plans are short and keep every rule.
+fn check_read(
+    text: &[u8],
+    days: &[i64],
+    span: Span,
+    factors: &[i64],
+    bounds: &[i64],
+    values: &[i64],
+    today: Month,
+) -> Quick
+    ensures { λ r. ⌜ ReadIs (now (text .entry))
+        (givenOf (now (days .entry)) (span .h) (span .f) (now (factors .entry)) (now (bounds .entry)) (now (values .entry))) (today .0) r ⌝ }
+{
+    if text.len() <= 1000 {
+        if tables::span_ok(span) & tables::month_ok(span.f, today.0) & tables::settings_ok(days) {
+            return measure_read(text, days, span, factors, bounds, values, today);
+        }
+    }
+    Quick::Unsure
+}
+
 // By the number of the text's letters.
 fn check_sized(
     text: &[u8],
@@ -276,6 +330,26 @@ fn check_sized(
     long_check(text, days, span, factors, bounds, values, today)
 }
 
+// The text as it is read; where that is not sure, with a table.
+fn check_any(
+    text: &[u8],
+    days: &[i64],
+    span: Span,
+    factors: &[i64],
+    bounds: &[i64],
+    values: &[i64],
+    today: Month,
+) -> Checking
+    ensures { λ r. ⌜ (checkingAnswer r ≡ checkCall (now (text .entry))
+        (givenOf (now (days .entry)) (span .h) (span .f) (now (factors .entry)) (now (bounds .entry)) (now (values .entry))) (today .0)) × Natural r ⌝ }
+{
+    let found = check_read(text, days, span, factors, bounds, values, today);
+    match found {
+        Quick::Kept(length, most) => Checking::Accepted(length, most),
+        Quick::Unsure => check_sized(text, days, span, factors, bounds, values, today),
+    }
+}
+
 // Whether a plan is accepted with its root in month today: its length and magnitude, or the refusal.
 pub fn check(
     text: &[u8],
@@ -290,7 +364,7 @@ pub fn check(
     ensures { λ r. ⌜ (checkingAnswer r ≡ checkCall (now (text .entry))
         (givenOf (now (days .entry)) h f (now (factors .entry)) (now (bounds .entry)) (now (values .entry))) today) × Natural r ⌝ }
 {
-    check_sized(
+    check_any(
         text,
         days,
         Span { h: h, f: f },

@@ -99,7 +99,7 @@ module _ {P : Type 0} (form : Form P) where
         unfolding nodeLetter
         letter-full q z = rw (e, h, q, z) refl
 
-        letter-got : (m : ℕ) → sameKind k (kindOf form l) ≡ true → n ≡ suc m
+        pub letter-got : (m : ℕ) → sameKind k (kindOf form l) ≡ true → n ≡ suc m
             → nodeLetter form k (record { nodes = n; fields = fs }) ≡ got (record { value = l; rest = record { nodes = m; fields = rest } })
         unfolding nodeLetter
         letter-got m q z = rw (e, h, q, z) refl
@@ -122,7 +122,7 @@ module _ {P : Type 0} (form : Form P) where
       fields-refused zero n p h = absurd (omega arith)
       fields-refused (suc d) n p h = rw (e, h) refl
 
-      fields-read : (left : ℕ) (vs : List Field) (s″ : Rest) → 0 < left → readFields (rowOf form l .fields) s′ ≡ got (record { value = vs; rest = s″ })
+      pub fields-read : (left : ℕ) (vs : List Field) (s″ : Rest) → 0 < left → readFields (rowOf form l .fields) s′ ≡ got (record { value = vs; rest = s″ })
           → readTrees form left (k ∷ ks) s ≡ thenRead (readTrees form (left - 1) (rowOf form l .children) s″) (λ t r. thenRead (readTrees form left ks r) (λ u. give (node l vs t u)))
       unfolding readTrees readBeside
       fields-read zero vs s″ p h = absurd (omega arith)

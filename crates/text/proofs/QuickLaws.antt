@@ -113,7 +113,7 @@ module _ (text : List ℕ) (at k : ℕ) (h : at < length text) (letter : ℕ) (a
 -- ---- where a letter stands
 
 module _ (text : List ℕ) (at k : ℕ) (h : at + 2 ≤ length text) (comma : getD text (at + 1) 0 ≡ 44) where
-  sole : (b : ℕ) → getD text at 0 ≡ b → (b ≡ 44 → ⊥) → upTo 44 (drop at text) ≡ b ∷ []
+  pub sole : (b : ℕ) → getD text at 0 ≡ b → (b ≡ 44 → ⊥) → upTo 44 (drop at text) ≡ b ∷ []
   sole b letter other =
       let n : getD text at 0 ≡ 44 → ⊥ = λ e. other (sym letter ∙ e) in
       up-more 44 text at (omega arith) n n ∙ ap (λ (l : List ℕ). getD text at 0 ∷ l) (up-comma 44 text (at + 1) (omega arith) comma)

@@ -3,13 +3,13 @@ use mir.Facts.{toZ-ofZ}
 use Rattle.rules.proofs.check.Statement.{statement}
 use Rattle.rules.proofs.check.Tie as tie
 
-check-sized-requires : tie.Need-check-sized-requires
-check-sized-requires c κs = search needs
+check-any-requires : tie.Need-check-any-requires
+check-any-requires c κs = search needs
 
 returns : tie.Need-returns
 returns c =
     let f = c .before .before .fits in
-    rw (toZ-ofZ (f .h), toZ-ofZ (f .f), toZ-ofZ (f .today)) at (c .check-sized .ensures)
+    rw (toZ-ofZ (f .h), toZ-ofZ (f .f), toZ-ofZ (f .today)) at (c .check-any .ensures)
 
 pub check-spec : {M : Type 1} → statement M
-check-spec = tie.close (tie.spec check-sized-requires returns)
+check-spec = tie.close (tie.spec check-any-requires returns)
