@@ -52,11 +52,10 @@ unsure k = absurd (omega (arith, k))
 
 -- ---- a row of digits
 
-pub digits-seen : (text : List ℕ) (at v i : ℕ) → Run (upTo 44 (drop at text)) at v i → i < 1000 → DigitsSeen text at (v * 1048576 + (i + 1))
-digits-seen text at v i r h =
-    let m : magnitudeIn (v * 1048576 + (i + 1)) ≡ v = omega (arith, h) in
-    let b : behind (v * 1048576 + (i + 1)) - 1 ≡ i = omega (arith, h) in
-    record { run = rw (m, b) r; none = omega (arith, h); some = omega (arith, h) }
+pub digits-seen : {text : List ℕ} {at v i r : ℕ} → Run (upTo 44 (drop at text)) at v i → Packed v 0 (i + 1) r → DigitsSeen text at r
+digits-seen {text} {at} {v} {i} {r} d p =
+    let b : behind r - 1 ≡ i = omega (arith, p .place) in
+    record { run = rw (p .magnitude, b) d; none = p .months; some = omega (arith, p .place) }
 
 -- with a digit above 0 in front
 module _ {text : List ℕ} {at : ℕ} (h : at < length text) (low : 49 ≤ getD text at 0) (high : getD text at 0 ≤ 57) {r : ℕ} (d : DigitsSeen text at r) where

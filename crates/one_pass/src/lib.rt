@@ -1,5 +1,5 @@
 // A plan's text measured as it is read, without a table.
 mod amount;
 mod node;
-mod packed;
+pub mod packed;
 pub mod plan;

@@ -25,6 +25,7 @@ use fields::numbers::read_number;
 use fields::slots::Slots;
 use fields::slots::quick_delay;
 use integers::Month;
+use measures::limit::BEYOND;
 
 // Whether a letter, a comma and four bytes more stand here, and a level is left.
 pub fn stands_at(text: &&[u8], at: usize, left: usize) -> bool
@@ -42,8 +43,6 @@ pub fn stands_at(text: &&[u8], at: usize, left: usize) -> bool
 
 // ---- numbers
 
-const LIMIT: u64 = 9_000_000_000_000;
-
 // A row of digits in front of a comma.
 fn digits_from(text: &&[u8], at: usize) -> u64
     requires { ⌜ Short (now (now text)) × (at ≤ 1024) ⌝ }
@@ -56,13 +55,13 @@ fn digits_from(text: &&[u8], at: usize) -> u64
         match b {
             b'0'..=b'9' => {
                 v = v * 10 + (b - 48) as u64;
-                if LIMIT < v {
+                if BEYOND <= v {
                     return UNSURE;
                 }
             }
             _ => {
                 if b == b',' {
-                    return v * 1048576 + (i as u64 + 1);
+                    return number_for(v, 0, i as u64 + 1);
                 }
                 return UNSURE;
             }

@@ -24,6 +24,12 @@ pub fn place(r: u64) -> usize
     (r % 1024) as usize
 }
 
+pub fn magnitude(r: u64) -> u64
+    ensures { λ m. ⌜ m ≡ magnitudeIn r ⌝ }
+{
+    r / 1048576
+}
+
 pub fn months(r: u64) -> u64
     ensures { λ n. ⌜ n ≡ monthsIn r ⌝ }
 {

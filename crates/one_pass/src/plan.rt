@@ -1,7 +1,7 @@
 // A plan's text, measured as it is read: recursion over its subplans, the depth left falling.
 ghost use mathlib.Core.Path.{_≡_};
 ghost use mathlib.Core.Bool.{true};
-ghost use Prim.Native.Nat.{_-_, _≤_};
+ghost use Prim.Native.Nat.{_≤_};
 ghost use Rattle.language.specs.Limits.{maxMonths};
 ghost use Rattle.language.specs.Rules.Table.{settingsOk};
 ghost use Rattle.measures.specs.Spans.{Near};
@@ -21,16 +21,6 @@ use crate::packed::UNSURE;
 use integers::Month;
 use measures::first;
 use measures::reads;
-
-// What is needed in so many months is needed d months later in d fewer.
-fn needed(need: u64, d: u64) -> u64
-    ensures { λ r. ⌜ r ≡ need - d ⌝ }
-{
-    if need < d {
-        return 0;
-    }
-    need - d
-}
 
 // A plan behind a part that was read before it.
 fn plan_behind(
@@ -92,7 +82,8 @@ pub fn plan_at(
                     let n = packed::months(d);
                     let low_then = reads::nearer(low, Month(n as i64));
                     let high_then = reads::nearer(high, Month(n as i64));
-                    let wanted = needed(need, n);
+                    // what is needed in so many months is needed n months later in n fewer
+                    let wanted = first::later_of(need, n) - n;
                     return plan_behind(
                         text,
                         d,

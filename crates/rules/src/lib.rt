@@ -18,6 +18,7 @@ ghost use Rattle.rules.specs.Standing.{Stands};
 ghost use Rattle.text.specs.Room.{Roomy, lettersIn};
 use integers::Month;
 use integers::Pence;
+use one_pass::packed;
 use tables::Span;
 use tables::fill::Filling;
 use text::Reading;
@@ -269,12 +270,11 @@ fn measure_read(
     let low = measures::reads::nearer(Month(0 - span.h), today);
     let high = measures::reads::nearer(Month(span.f), today);
     let found = one_pass::plan::plan_at(&text, 0, 32, low, high, 0, &bounds, &days);
-    let magnitude = found / 1048576;
-    if measures::limit::is_within(magnitude) & (found % 1024 == text.len() as u64 + 1) {
+    if packed::is_kept(found) & (packed::place(found) == text.len() + 1) {
         if tables::table_ok(span, factors, bounds, values) {
             // high less the months that are left behind the plan's end
-            let length = measures::reads::nearer(high, Month((found / 1024 % 1024) as i64));
-            return Quick::Kept(length, Pence(magnitude as i64));
+            let length = measures::reads::nearer(high, Month(packed::months(found) as i64));
+            return Quick::Kept(length, Pence(packed::magnitude(found) as i64));
         }
     }
     Quick::Unsure

@@ -32,19 +32,19 @@ add-v c = omega (arith, c .before .before .before .before .loop .inv .1)
 returns : tie.Need-returns Inv-loop μ-loop
 returns c = unsure
 
-mul-result : tie.Need-mul-result Inv-loop μ-loop
-mul-result c = omega (arith, c .before .before .before .before .loop .inv .1)
+add-number-for : tie.Need-add-number-for Inv-loop μ-loop
+add-number-for c = omega (arith, c .before .before .before .before .loop .inv .0)
 
-add-result : tie.Need-add-result Inv-loop μ-loop
-add-result c = omega (arith, c .before .before .before .before .loop .inv .0)
-
-add-result-2 : tie.Need-add-result-2 Inv-loop μ-loop
-add-result-2 c = omega (arith, c .before .before .before .before .loop .inv .0, c .before .before .before .before .loop .inv .1)
+number-for-requires : tie.Need-number-for-requires Inv-loop μ-loop
+number-for-requires c κs =
+    let start = c .before .before .before .before .before in
+    (omega arith, omega (arith, c .before .before .before .if1 .taken, start .pre .0 .short))
 
 returns-2 : tie.Need-returns-2 Inv-loop μ-loop
 returns-2 c =
-    let start = c .before .before .before .before .before in
-    λ k. digits-seen (start .args .text .now .now) (start .args .at) (c .before .before .before .before .loop .v) (c .before .before .before .before .loop .i) (going-done _ _ _ _ _ (c .before .before .before .before .loop .inv .2) (up-comma 44 (start .args .text .now .now) (c .before .before .before .before .loop .i) (c .before .before .before .if1 .taken) (c .if5 .taken)) (c .before .before .before .before .loop .inv .1)) (omega (arith, c .before .before .before .if1 .taken, start .pre .0 .short))
+    let start = c .before .before .before .before .before .before in
+    let turn = c .before .before .before .before .before .loop in
+    λ k. digits-seen (going-done _ _ _ _ _ (turn .inv .2) (up-comma 44 (start .args .text .now .now) (turn .i) (c .before .before .before .before .if1 .taken) (c .before .if5 .taken)) (turn .inv .1)) (c .number-for .ensures k)
 
 returns-3 : tie.Need-returns-3 Inv-loop μ-loop
 returns-3 c = unsure
@@ -75,9 +75,8 @@ digits-from-spec =
     cast-v
     add-v
     returns
-    mul-result
-    add-result
-    add-result-2
+    add-number-for
+    number-for-requires
     returns-2
     returns-3
     add-i

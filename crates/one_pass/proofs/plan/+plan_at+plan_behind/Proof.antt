@@ -31,7 +31,6 @@ use Rattle.one_pass.proofs.packed.is_kept.Reads as is-kept-reads
 use Rattle.one_pass.proofs.packed.months.Reads as months-reads
 use Rattle.one_pass.proofs.packed.place.Reads as place-reads
 use Rattle.one_pass.proofs.packed.scaled.Reads as scaled-reads
-use Rattle.one_pass.proofs.plan.needed.Reads as needed-reads
 use Rattle.one_pass.proofs.plan.+plan_at+plan_behind.{statement}
 use Rattle.one_pass.proofs.plan.+plan_at+plan_behind.Tie.{close}
 
@@ -54,7 +53,7 @@ abbrev plan-behind-below : ℕ → In 6 plan-behind-kinds.ps
 plan-behind-below t = and 6 plan-behind-kinds.ps (falls 6 plan-behind-kinds.ps _<_ μ-plan-behind t) plan-behind.Pre
 
 abbrev plan-at-calls : ℕ → plan-at-lts.Claims
-plan-at-calls t = (stands-at-reads.Asked, stands-at-reads.Learnt, ended-reads.Asked, ended-reads.Learnt, transfer-at-reads.Asked, transfer-at-reads.Learnt, amount-at-reads.Asked, amount-at-reads.Learnt, months-reads.Asked, months-reads.Learnt, later-of-reads.Asked, later-of-reads.Learnt, plan-behind-below t, plan-behind.Post, scaled-reads.Asked, scaled-reads.Learnt, delay-at-reads.Asked, delay-at-reads.Learnt, is-kept-reads.Asked, is-kept-reads.Learnt, nearer-reads.Asked, nearer-reads.Learnt, needed-reads.Asked, needed-reads.Learnt, plan-at-below t, plan-at.Post, added-reads.Asked, added-reads.Learnt, test-behind-reads.Asked, test-behind-reads.Learnt, tried-in-time-reads.Asked, tried-in-time-reads.Learnt, either-reads.Asked, either-reads.Learnt, last-at-reads.Asked, last-at-reads.Learnt)
+plan-at-calls t = (stands-at-reads.Asked, stands-at-reads.Learnt, ended-reads.Asked, ended-reads.Learnt, transfer-at-reads.Asked, transfer-at-reads.Learnt, amount-at-reads.Asked, amount-at-reads.Learnt, months-reads.Asked, months-reads.Learnt, later-of-reads.Asked, later-of-reads.Learnt, plan-behind-below t, plan-behind.Post, scaled-reads.Asked, scaled-reads.Learnt, delay-at-reads.Asked, delay-at-reads.Learnt, is-kept-reads.Asked, is-kept-reads.Learnt, nearer-reads.Asked, nearer-reads.Learnt, plan-at-below t, plan-at.Post, added-reads.Asked, added-reads.Learnt, test-behind-reads.Asked, test-behind-reads.Learnt, tried-in-time-reads.Asked, tried-in-time-reads.Learnt, either-reads.Asked, either-reads.Learnt, last-at-reads.Asked, last-at-reads.Learnt)
 
 plan-at-stands-at-requires : (t : ℕ) → plan-at-lts.Need-stands-at-requires (plan-at-calls t) (plan-at-at t) plan-at.Post
 plan-at-stands-at-requires t c κs =
@@ -127,6 +126,9 @@ plan-at-nearer-requires-2 t c κs =
     let s = c .before .before .before .before .before .before .before .before .before in
     let w = c .before .before .before .before .delay-at .ensures (is-kept _ (c .before .before .before .is-kept .ensures) (c .before .before .if2 .taken)) in high-later (s .pre .1 .2) (as-month (c .before .months2 .ensures) (w .few)) (w .few)
 
+plan-at-sub-wanted : (t : ℕ) → plan-at-lts.Need-sub-wanted (plan-at-calls t) (plan-at-at t) plan-at.Post
+plan-at-sub-wanted t c = omega (arith, c .later-of2 .ensures)
+
 plan-at-sub-plan-behind-2 : (t : ℕ) → plan-at-lts.Need-sub-plan-behind-2 (plan-at-calls t) (plan-at-at t) plan-at.Post
 plan-at-sub-plan-behind-2 t c =
     let h = c .before .before .before .before .before .before .before .before .before .before .stands-at .ensures (c .before .before .before .before .before .before .before .before .before .if1 .taken) in omega (arith, h .2)
@@ -141,7 +143,7 @@ plan-at-returns : (t : ℕ) → plan-at-lts.Need-returns (plan-at-calls t) (plan
 plan-at-returns t c =
     let s = c .before .before .before .before .before .before .before .before .before .before .before .before in
     let h = c .before .before .before .before .before .before .before .before .before .before .before .stands-at .ensures (c .before .before .before .before .before .before .before .before .before .before .if1 .taken) in
-    λ k. let w = c .before .before .before .before .before .before .before .delay-at .ensures (is-kept _ (c .before .before .before .before .before .before .is-kept .ensures) (c .before .before .before .before .before .if2 .taken)) in let b = c .plan-behind2 .ensures k in later-seen _ (s .pre .1 .0) _ _ (h .2) _ _ _ _ _ w (record { room = h .0; comma = h .1; letter = c .before .before .before .before .before .before .before .before .match .keys4 }) (moved (s .args .low .0) (c .before .before .before .nearer .ensures) (c .before .before .before .before .months2 .ensures) (w .few)) (moved (s .args .high .0) (c .before .before .nearer2 .ensures) (c .before .before .before .before .months2 .ensures) (w .few)) (few-then (s .args .high .0) (monthsIn (c .before .before .before .before .before .before .before .delay-at .result)) (s .pre .1 .3) (moved (s .args .high .0) (c .before .before .nearer2 .ensures) (c .before .before .before .before .months2 .ensures) (w .few))) (c .before .needed .ensures ∙ ap (λ n. s .args .need - n) (c .before .before .before .before .months2 .ensures)) (b .1) k
+    λ k. let w = c .before .before .before .before .before .before .before .delay-at .ensures (is-kept _ (c .before .before .before .before .before .before .is-kept .ensures) (c .before .before .before .before .before .if2 .taken)) in let b = c .plan-behind2 .ensures k in later-seen _ (s .pre .1 .0) _ _ (h .2) _ _ _ _ _ w (record { room = h .0; comma = h .1; letter = c .before .before .before .before .before .before .before .before .match .keys4 }) (moved (s .args .low .0) (c .before .before .before .nearer .ensures) (c .before .before .before .before .months2 .ensures) (w .few)) (moved (s .args .high .0) (c .before .before .nearer2 .ensures) (c .before .before .before .before .months2 .ensures) (w .few)) (few-then (s .args .high .0) (monthsIn (c .before .before .before .before .before .before .before .delay-at .result)) (s .pre .1 .3) (moved (s .args .high .0) (c .before .before .nearer2 .ensures) (c .before .before .before .before .months2 .ensures) (w .few))) (omega (arith, c .before .later-of2 .ensures, c .before .before .before .before .months2 .ensures)) (b .1) k
 
 plan-at-add-plan-at : (t : ℕ) → plan-at-lts.Need-add-plan-at (plan-at-calls t) (plan-at-at t) plan-at.Post
 plan-at-add-plan-at t c =
@@ -173,8 +175,8 @@ plan-at-delay-at-requires-2 t c κs =
     let s = c .before .before .before .before in
     let h = c .before .before .before .stands-at .ensures (c .before .before .if1 .taken) in (s .pre .1 .0, h .0, s .pre .1 .4)
 
-plan-at-cast-t44 : (t : ℕ) → plan-at-lts.Need-cast-t44 (plan-at-calls t) (plan-at-at t) plan-at.Post
-plan-at-cast-t44 t c =
+plan-at-cast-t45 : (t : ℕ) → plan-at-lts.Need-cast-t45 (plan-at-calls t) (plan-at-at t) plan-at.Post
+plan-at-cast-t45 t c =
     let w = c .before .before .before .delay-at2 .ensures (is-kept _ (c .before .before .is-kept2 .ensures) (c .before .if3 .taken)) in omega (arith, c .months3 .ensures, w .few)
 
 plan-at-nearer-requires-3 : (t : ℕ) → plan-at-lts.Need-nearer-requires-3 (plan-at-calls t) (plan-at-at t) plan-at.Post
@@ -286,6 +288,7 @@ plan-at-part t =
     (plan-at-cast-t37-2 t)
     (plan-at-nearer-requires-2 t)
     (λ c κs. search needs)
+    (plan-at-sub-wanted t)
     (plan-at-sub-plan-behind-2 t)
     (plan-at-plan-behind-requires-2 t)
     (plan-at-returns t)
@@ -298,7 +301,7 @@ plan-at-part t =
     (plan-at-delay-at-requires-2 t)
     (λ c κs. search needs)
     (λ c κs. search needs)
-    (plan-at-cast-t44 t)
+    (plan-at-cast-t45 t)
     (plan-at-nearer-requires-3 t)
     (plan-at-nearer-requires-4 t)
     (plan-at-sub-test-behind t)
