@@ -9,13 +9,14 @@ use mathlib.Core.List.{List, [], _∷_}
 use mathlib.Core.Option.{some}
 use mathlib.Core.Path.{_∙_, _≡_, ap₂, refl, sym}
 use native.Mathlib.Omega.{arith}
+use Rattle.fields.proofs.FieldLaws.{read-none}
 use Rattle.fields.specs.Fields.{ReadUpTo}
 use Rattle.language.specs.Limits.{maxAmount}
 use Rattle.language.specs.Rules.Measures.{Latest, laterOf, latestOf, latestOfTest, magnitudeOfAmount}
 use Rattle.language.specs.Rules.Tests.{amountReads, amountSmall, testReads, testSmall}
 use Rattle.language.specs.Text.Classes.{Field, aNumber}
 use Rattle.language.specs.Text.Letters.{AmountLetter, Class, Kind, Letter, PlanLetter, TestLetter, amount, amountRow, divisor, figure, fromNode, kindOf, label, letterAmong, letterIn, ofAmount, ofTest, planForm, planRow, rowOf, sameKind, test, testRow}
-use Rattle.language.specs.Text.Reader.{node, readFields}
+use Rattle.language.specs.Text.Reader.{node}
 use Rattle.language.specs.Text.Trees.{choose, conjunction, difference, disjunction, equal, index, less, negation, number, product, quotient, sum}
 use Rattle.language.specs.Text.Typed.{amountTree, testTree}
 use Rattle.measures.proofs.AmountMagnitudes.{amount-limit, bound-at}
@@ -34,11 +35,6 @@ use Rattle.one_pass.proofs.Reading.{Opened, child, opened, whole}
 later : (p q : Latest) {x y r : ℕ} → x ≡ latestMonth p → y ≡ latestMonth q → r ≡ max x y → r ≡ latestMonth (laterOf p q)
 later p q ex ey er = er ∙ ap₂ max ex ey ∙ sym (later-latest p q)
 
--- no fields
-pub no-fields : (text : List ℕ) (at : ℕ) → at ≤ length text + 1 → ReadUpTo [] text at [] at
-unfolding readFields
-no-fields text at h = record { is = λ n. refl; onward = omega arith; within = h }
-
 module _ (text : List ℕ) (short : Short text) (left at : ℕ) (level : 0 < left) where
   -- a letter in front of a comma, and its fields
   pub here-opened : {b : ℕ} → Here text at b → (b ≡ 44 → ⊥) → (l : Letter PlanLetter) → letterIn planForm (b ∷ []) ≡ some l → (k : Kind) → sameKind k (kindOf planForm l) ≡ true
@@ -50,7 +46,7 @@ module _ (text : List ℕ) (short : Short text) (left at : ℕ) (level : 0 < lef
   -- one without fields
   pub bare-opened : {b : ℕ} → Here text at b → (b ≡ 44 → ⊥) → (l : Letter PlanLetter) → letterIn planForm (b ∷ []) ≡ some l → (k : Kind) → sameKind k (kindOf planForm l) ≡ true
       → rowOf planForm l .fields ≡ [] → (js : List Kind) → rowOf planForm l .children ≡ js → Opened left k text at (at + 2) js (node l [])
-  bare-opened h other l find k same ec js ej = here-opened h other l find k same [] ec (no-fields text (at + 2) (omega (arith, h .room))) js ej
+  bare-opened h other l find k same ec js ej = here-opened h other l find k same [] ec (read-none text (at + 2) (omega (arith, h .room))) js ej
 
   module _ (low high : ℤ) (bounds : List ℤ) where
     abbrev Seen : ℕ → Type 0

@@ -9,6 +9,7 @@ use mir.Facts.{toZ-pos}
 use mir.Syntax.{w64}
 use mir.Val.{toZ}
 use native.Mathlib.Omega.{arith}
+use Rattle.fields.proofs.FieldLaws.{read-none}
 use Rattle.fields.specs.Fields.{ReadUpTo}
 use Rattle.fields.specs.Positions.{upTo}
 use Rattle.language.specs.Limits.{maxAmount, maxMonths}
@@ -31,7 +32,7 @@ use Rattle.nodes.specs.Table.{natOf}
 use Rattle.one_pass.specs.Packed.{Joined, Kept, Packed, behind, magnitudeIn, monthsIn}
 use Rattle.one_pass.specs.Reads.{Here, Reads, Short}
 use Rattle.one_pass.specs.Seen.{AmountSeen, DelaySeen, PlanSeen, TestSeen}
-use Rattle.one_pass.proofs.Amounts.{bare-opened, here-opened, no-fields}
+use Rattle.one_pass.proofs.Amounts.{bare-opened, here-opened}
 use Rattle.one_pass.proofs.Reading.{Opened, child, opened, whole}
 
 -- ---- a plan's number without its place
@@ -65,7 +66,7 @@ module _ (text : List ℕ) (short : Short text) (left at : ℕ) (level : 0 < lef
         let n : r / 1024 ≡ m = omega (arith, p .magnitude, p .months) in
         record {
           plan = nothing;
-          is = rw (p .place) (whole (opened text short left at level inside 90 alone (ofRoot PlanLetter.Z) refl root refl [] refl (no-fields text (at + 2) (omega (arith, inside))) [] refl));
+          is = rw (p .place) (whole (opened text short left at level inside 90 alone (ofRoot PlanLetter.Z) refl root refl [] refl (read-none text (at + 2) (omega (arith, inside))) [] refl));
           set = refl;
           sure = λ t a z s. nothing-sure t a z (boundIn bounds) need (omega (arith, n, b)) (e ∙ ap pos (sym n)) (kept-part r k);
         }

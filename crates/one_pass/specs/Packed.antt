@@ -4,12 +4,15 @@ use Prim.Native.Nat.{_%_, _/_, _≤_, ℕ}
 use mathlib.Core.Path.{_≡_}
 use Rattle.language.specs.Limits.{maxAmount}
 
+-- the magnitude of what was read, 0 where it has none
 abbrev pub magnitudeIn : ℕ → ℕ
 magnitudeIn r = r / 1048576
 
+-- its months
 abbrev pub monthsIn : ℕ → ℕ
 monthsIn r = r / 1024 % 1024
 
+-- the byte behind it
 abbrev pub behind : ℕ → ℕ
 behind r = r % 1024
 
@@ -23,6 +26,7 @@ pub record Packed (m n next r : ℕ) : Type 0 where
   pub months : monthsIn r ≡ n
   pub place : behind r ≡ next
 
+-- where it tells something
 abbrev pub PackedIs : ℕ → ℕ → ℕ → ℕ → Type 0
 PackedIs m n next r = Kept r → Packed m n next r
 
@@ -32,6 +36,7 @@ pub record Both (m n x y r : ℕ) : Type 0 where
   pub second : Kept y
   pub packed : Packed m n (behind y) r
 
+-- where that tells something, both did
 abbrev pub JoinedTo : ℕ → ℕ → ℕ → ℕ → ℕ → Type 0
 JoinedTo m n x y r = Kept r → Both m n x y r
 

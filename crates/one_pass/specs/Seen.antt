@@ -29,6 +29,53 @@ use Rattle.nodes.specs.Table.{natOf}
 use Rattle.one_pass.specs.Packed.{Kept, Packed, behind, magnitudeIn, monthsIn}
 use Rattle.one_pass.specs.Reads.{Reads}
 
+-- ---- fields
+
+-- a row of digits in front of a comma: its value as magnitude
+pub record DigitsSeen (text : List ℕ) (at r : ℕ) : Type 0 where
+  pub run : Run (upTo 44 (drop at text)) at (magnitudeIn r) (behind r - 1)
+  pub none : monthsIn r ≡ 0
+  pub some : 0 < behind r
+
+-- a divisor is read here
+pub record DivisorSeen (text : List ℕ) (at r : ℕ) : Type 0 where
+  pub by : ℕ
+  pub is : ReadUpTo (divisor ∷ []) text at (aNumber (pos by) ∷ []) (behind r)
+
+-- a label that the table has, and an offset that can be read
+pub record Indexed (l i low high : ℤ) (bounds : List ℤ) (next r : ℕ) : Type 0 where
+  pub label : ℕ
+  pub is : l ≡ pos label
+  pub inside : label < length bounds
+  pub least : leZ low i ≡ true
+  pub most : leZ i high ≡ true
+  pub packed : Packed (boundIn bounds label) (natOf i) next r
+
+-- a delay's slot as months
+pub record DelayOf (a : ℤ) (next : ℕ) (days : List ℤ) (r : ℕ) : Type 0 where
+  pub set : delaySet days (delayFrom a) ≡ true
+  pub packed : Packed 0 (delayOf (settingAt days) (delayFrom a)) next r
+  pub few : monthsIn r ≤ maxMonths
+
+-- a delay is read here, and where it is a setting, that is lent
+pub record DelaySeen (text : List ℕ) (at : ℕ) (days : List ℤ) (r : ℕ) : Type 0 where
+  pub wait : Delay
+  pub is : ReadUpTo (delay ∷ []) text at (aDelay wait ∷ []) (behind r)
+  pub set : delaySet days wait ≡ true
+  pub months : monthsIn r ≡ delayOf (settingAt days) wait
+  pub few : monthsIn r ≤ maxMonths
+
+-- ---- a plan without parts
+
+-- its months are those that the table goes on behind it
+pub record Ended (m next : ℕ) (high : ℤ) (r : ℕ) : Type 0 where
+  pub months : ℕ
+  pub packed : Packed m months next r
+  pub few : months ≤ maxMonths
+  pub is : high ≡ pos months
+
+-- ---- amounts, tests and plans
+
 module _ (text : List ℕ) (left at : ℕ) (low high : ℤ) (bounds : List ℤ) where
   -- an amount is read here, it can be read from every month of a node with these offsets, and is within the limit everywhere
   pub record AmountSeen (r : ℕ) : Type 0 where
@@ -64,50 +111,3 @@ module _ (text : List ℕ) (left at : ℕ) (low high : ℤ) (bounds : List ℤ) 
 
     abbrev pub PlanIs : ℕ → Type 0
     PlanIs r = Kept r → PlanSeen r
-
--- ---- fields
-
--- a divisor is read here
-pub record DivisorSeen (text : List ℕ) (at r : ℕ) : Type 0 where
-  pub by : ℕ
-  pub is : ReadUpTo (divisor ∷ []) text at (aNumber (pos by) ∷ []) (behind r)
-
--- a delay is read here, and where it is a setting, that is lent
-pub record DelaySeen (text : List ℕ) (at : ℕ) (days : List ℤ) (r : ℕ) : Type 0 where
-  pub wait : Delay
-  pub is : ReadUpTo (delay ∷ []) text at (aDelay wait ∷ []) (behind r)
-  pub set : delaySet days wait ≡ true
-  pub months : monthsIn r ≡ delayOf (settingAt days) wait
-  pub few : monthsIn r ≤ maxMonths
-
--- a row of digits in front of a comma: its value as magnitude
-pub record DigitsSeen (text : List ℕ) (at r : ℕ) : Type 0 where
-  pub run : Run (upTo 44 (drop at text)) at (magnitudeIn r) (behind r - 1)
-  pub none : monthsIn r ≡ 0
-  pub some : 0 < behind r
-
--- ---- a plan without parts
-
--- its months are those that the table goes on behind it
-pub record Ended (m next : ℕ) (high : ℤ) (r : ℕ) : Type 0 where
-  pub months : ℕ
-  pub packed : Packed m months next r
-  pub few : months ≤ maxMonths
-  pub is : high ≡ pos months
-
--- ---- an index
-
--- a label that the table has, and an offset that can be read
-pub record Indexed (l i low high : ℤ) (bounds : List ℤ) (next r : ℕ) : Type 0 where
-  pub label : ℕ
-  pub is : l ≡ pos label
-  pub inside : label < length bounds
-  pub least : leZ low i ≡ true
-  pub most : leZ i high ≡ true
-  pub packed : Packed (boundIn bounds label) (natOf i) next r
-
--- a delay's slot as months
-pub record DelayOf (a : ℤ) (next : ℕ) (days : List ℤ) (r : ℕ) : Type 0 where
-  pub set : delaySet days (delayFrom a) ≡ true
-  pub packed : Packed 0 (delayOf (settingAt days) (delayFrom a)) next r
-  pub few : monthsIn r ≤ maxMonths

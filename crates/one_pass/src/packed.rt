@@ -1,6 +1,6 @@
 // What was read, as one number: 1048576 times a magnitude, 1024 times months, and the byte behind it.
 ghost use mathlib.Core.Path.{_≡_};
-ghost use Prim.Native.Nat.{_+_, _*_, _-_, _<_, max, min};
+ghost use Prim.Native.Nat.{_+_, _*_, _<_, max, min};
 ghost use lib.Dec.{leb};
 ghost use Rattle.language.specs.Limits.{maxAmount};
 ghost use Rattle.one_pass.specs.Packed.{JoinedIs, JoinedTo, PackedIs, behind, magnitudeIn, monthsIn};
@@ -24,18 +24,21 @@ pub fn place(r: u64) -> usize
     (r % 1024) as usize
 }
 
+// The magnitude of what was read.
 pub fn magnitude(r: u64) -> u64
     ensures { λ m. ⌜ m ≡ magnitudeIn r ⌝ }
 {
     r / 1048576
 }
 
+// Its months.
 pub fn months(r: u64) -> u64
     ensures { λ n. ⌜ n ≡ monthsIn r ⌝ }
 {
     r / 1024 % 1024
 }
 
+// The number for these three, where the magnitude is within the limit.
 pub fn number_for(magnitude: u64, months: u64, next: u64) -> u64
     requires { ⌜ (months < 1024) × (next < 1024) ⌝ }
     ensures { λ r. ⌜ PackedIs magnitude months next r ⌝ }
