@@ -45,10 +45,9 @@
  *
  *     cut                                22,000
  *     compile                            27,000
- *     check                              33,000
- *     payment                            34,000
+ *     check, payment                     33,000
  *     evaluate                           36,000
- *     step                               45,000
+ *     step                               43,000
  *     sheet                             106,000
  *
  * The library refers to one function outside it, memset.

@@ -7,7 +7,7 @@ ghost use Rattle.amounts.specs.FourMonths.{held_in, pence_in};
 
 use integers::Pence;
 
-#[derive(Drop)]
+#[derive(Clone, Copy)]
 pub struct Four {
     pub a: Pence,
     pub b: Pence,
@@ -15,7 +15,7 @@ pub struct Four {
     pub d: Pence,
 }
 
-#[derive(Drop)]
+#[derive(Clone, Copy)]
 pub struct Held {
     pub a: bool,
     pub b: bool,

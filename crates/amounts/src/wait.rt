@@ -14,7 +14,7 @@ use crate::four::Held;
 use crate::fours;
 use integers::Month;
 
-#[derive(Drop)]
+#[derive(Clone, Copy)]
 pub enum Wait {
     Held(Month),
     Missed(Month),

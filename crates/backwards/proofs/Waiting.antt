@@ -10,7 +10,7 @@ use Rattle.nodes.specs.Table.{nat_of, slot_at}
 use Rattle.nodes.specs.declared.AmountLetter.TheVariants as amount
 use Rattle.nodes.specs.declared.AmountLetter.{AmountLetter}
 use lib.IntN.{◌*ℤ◌, ◌+ℤ◌, ◌-ℤ◌, pos, ℤ}
-use lib.ListN.{get_or, length, length_set, set}
+use lib.ListN.{get_or, length, length-set, set}
 use lib.Seq.{get_or-set_other, get_or-set_same}
 use mathlib.Core.List.{List, [], ◌∷◌}
 use mathlib.Core.Path.{◌∙◌, ◌≡◌, ap, refl, subst, sym}
@@ -126,7 +126,7 @@ module _ {w : Way} {nodes : List ℤ} {from to : ℕ} {a : Answer ℤ} {stack : 
     -- a number or a reading, v, is pushed
     pub pushed_row : depth < 32 → {z v : ℤ} → z ≡ v → Next (v ∷ waiting stack depth top) → After (set stack depth top) (depth + 1) z
     pushed_row d {z} ez n =
-        next (set stack depth top) (depth + 1) z (length_set stack depth top ∙ p.size) (omega arith)
+        next (set stack depth top) (depth + 1) z (length-set stack depth top ∙ p.size) (omega arith)
         (rw (pushed stack depth top z (omega (arith, p.size)), ez) n)
 
     pub number_row : letter_there ≡ amount.Number → depth < 32 → {z : ℤ} → z ≡ slot_at nodes (at - 1) 1 → After (set stack depth top) (depth + 1) z

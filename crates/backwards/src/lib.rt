@@ -14,7 +14,7 @@ use amounts::rows;
 use integers::{Month, Pence};
 
 // What the way back answers.
-#[derive(Drop)]
+#[derive(Clone, Copy)]
 pub enum Back {
     Value(Pence),
     Other,

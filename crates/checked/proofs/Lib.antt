@@ -5,4 +5,5 @@ pub mod CheckedArms
 pub mod CheckedNodes
 pub mod Codes
 pub mod Combined
+pub mod FourLaws
 pub mod RowAnswers

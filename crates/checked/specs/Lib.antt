@@ -3,4 +3,5 @@ pub mod Answers
 pub mod Checked
 pub mod Coded
 pub mod Evaluated
+pub mod FourMonths
 pub mod Ranges

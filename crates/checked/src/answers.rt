@@ -10,19 +10,19 @@ ghost use Rattle.checked.specs.Answers.{SmallValued, amount_answer, not_answer, 
 use integers::{Bounded, Pence};
 
 // What an amount or a test can be refused for: 11 or 14.
-#[derive(Drop)]
+#[derive(Clone, Copy)]
 pub enum Fault {
     Unread,
     Beyond,
 }
 
-#[derive(Drop)]
+#[derive(Clone, Copy)]
 pub enum Valued {
     Value(Pence),
     Refused(Fault),
 }
 
-#[derive(Drop)]
+#[derive(Clone, Copy)]
 pub enum Tested {
     Holds,
     Fails,

@@ -15,6 +15,7 @@ use nodes::{AmountLetter, TestLetter};
 
 pub mod answers;
 pub mod coded;
+pub mod four;
 pub mod rows;
 
 // The amount at a node, with some months waited: a number or an index without a call.

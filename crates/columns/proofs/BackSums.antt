@@ -2,7 +2,7 @@
 use Prim.Native.Nat.{◌+◌, ◌-◌, ◌<◌, ◌≤◌, suc, zero, ℕ}
 use lib.Dec.{T, eqb, eqb_refl, eqb→eq}
 use lib.IntN.{◌*ℤ◌, ◌+ℤ◌, pos, ℤ}
-use lib.ListN.{get_or, length, length_set, set}
+use lib.ListN.{get_or, length, length-set, set}
 use lib.Seq.{get_or-set_other, get_or-set_same}
 use mathlib.Core.Bool.{Bool, false, true}
 use mathlib.Core.List.{List}
@@ -61,7 +61,7 @@ module _ (factors column : List ℤ) where
     pub backed_next : months ≤ length before → {next due : ℤ} → due ≡ due_of factors column (m - 1) → next ≡ due +ℤ sum → {x : ℤ} → x ≡ next
         → Backed months before (set rest (m - 1) x) next (m - 1)
     backed_next room {next} {due} ed en {x} ex = record {
-      size = length_set rest (m - 1) x ∙ b.size;
+      size = length-set rest (m - 1) x ∙ b.size;
       inside = omega (arith, b.inside);
       is = grown ed en;
       each = λ k h l. by k h l (eqb k (m - 1)) refl;

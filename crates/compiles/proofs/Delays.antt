@@ -1,6 +1,6 @@
 -- One more delay, as the two numbers of a month have it.
 use Prim.Native.Nat.{◌+◌, ◌-◌, ◌<◌, ◌^◌, ◌≤◌, ℕ}
-use borrow.Author.Tests.{le_leb}
+use borrow.Author.Tests.{le-leb}
 use lib.Dec.{leb}
 use lib.IntN.{◌+ℤ◌, nat_abs, negsuc, neg_ℤ, pos, ℤ}
 use lib.Signed.{le_z, lt_z}
@@ -126,8 +126,8 @@ near_zero z e =
     nat_abs_le z max_months (omega (arith, le_true z (pos max_months) b.1)) (omega (arith, le_true (neg_ℤ (pos max_months)) z b.0, up_neg (pos max_months), dn_neg (pos max_months)))
 
 is_near : (z : ℤ) → nat_abs z ≤ max_months → between (neg_ℤ (pos max_months)) (pos max_months) z ≡ true
-is_near (pos m) h = le_leb m max_months h
-is_near (negsuc m) h = rw (le_leb m 599 (omega arith)) refl
+is_near (pos m) h = le-leb m max_months h
+is_near (negsuc m) h = rw (le-leb m 599 (omega arith)) refl
 
 module _ (plain i : ℤ) where
   pub offset_small : between (neg_ℤ (pos max_months)) (pos max_months) i ≡ true → nat_abs i ≤ 19_200

@@ -1,7 +1,7 @@
 -- Appending one row, none, and one part behind another.
 use Prim.Native.Nat.{◌*◌, ◌+◌, ◌-◌, ◌≤◌, ℕ}
 use lib.IntN.{ℤ}
-use lib.ListN.{drop, length, length_append, take}
+use lib.ListN.{drop, length, length-append, take}
 use lib.Seq.{drop_at, drop-drop, length-sets, length-take-le, sets, sets-eq, take_at}
 use mathlib.Core.List.{List, [], ◌++◌, ◌∷◌, append_assoc, append-nil}
 use mathlib.Core.Path.{◌∙◌, ◌≡◌, ap, refl, sym}
@@ -23,7 +23,7 @@ appended_none out n = record { is = sym (append-nil (take (5 * n) out)); ends = 
 
 pub appended_row : (before after : List ℤ) (n : ℕ) (row : List ℤ) → length row ≡ 5 → 5 * n + 5 ≤ length before → after ≡ sets before (5 * n) row → Appended before after n (n + 1) row
 appended_row before after n row five room e =
-    let s : length (take (5 * n) before ++ row) ≡ 5 * (n + 1) = omega (arith, length_append (take (5 * n) before) row, length-take-le (5 * n) before (omega arith)) in
+    let s : length (take (5 * n) before ++ row) ≡ 5 * (n + 1) = omega (arith, length-append (take (5 * n) before) row, length-take-le (5 * n) before (omega arith)) in
     let d : 5 * n + length row ≡ 5 * (n + 1) = omega arith in
     let whole : after ≡ (take (5 * n) before ++ row) ++ drop (5 * n + length row) before = e ∙ sets-eq row before (5 * n) (omega arith) in
     record {
@@ -36,7 +36,7 @@ appended_row before after n row five room e =
 pub appended_then : {a b c : List ℤ} {m n o : ℕ} {x y : List ℤ} → Appended a b m n x → Appended b c n o y → Appended a c m o (x ++ y)
 appended_then {a} {b} {c} {m} {n} {o} {x} {y} p q = record {
   is = q.is ∙ ap (λ l. l ++ y) p.is ∙ append_assoc (take (5 * m) a) x y;
-  ends = omega (arith, p.ends, q.ends, length_append x y);
+  ends = omega (arith, p.ends, q.ends, length-append x y);
   behind = q.behind ∙ drop_more b a (5 * n) (5 * o) (omega (arith, q.ends)) p.behind;
   size = q.size ∙ p.size;
 }

@@ -1,7 +1,7 @@
 -- The children of a node that lies in the table: each lies from one of the node's places up to the next.
 use Prim.Native.Nat.{◌*◌, ◌+◌, ◌<◌, ◌≤◌, ℕ}
 use lib.IntN.{pos, ℤ}
-use lib.ListN.{drop, length, length_append, length_drop}
+use lib.ListN.{drop, length, length-append, length-drop}
 use mathlib.Core.List.{List, [], ◌++◌, append_assoc, append-nil}
 use mathlib.Core.Path.{◌∙◌, ◌≡◌, ap, refl, subst, sym}
 use native.Mathlib.Omega.{arith}
@@ -26,7 +26,7 @@ lies_kept e h = record { rest = h.rest; is = e ∙ h.is; ends = h.ends; room = h
 pub lying_length : {nodes : List ℤ} {from to : ℕ} {t : Trees PlanLetter} → from < to → Lies nodes from to t → 5 * to ≤ length nodes
 lying_length {nodes} {from} {t = t} s h =
     let n : length (drop (from * 5) nodes) ≡ length (rows plan_form t ++ h.rest) = ap length h.is in
-    omega (arith, n, length_drop (from * 5) nodes, length_append (rows plan_form t) h.rest, rows_length plan_form t, h.ends)
+    omega (arith, n, length-drop (from * 5) nodes, length-append (rows plan_form t) h.rest, rows_length plan_form t, h.ends)
 
 nothing_left : count_of {P = PlanLetter} end ≡ 0
 unfolding count_of

@@ -9,7 +9,7 @@ ghost use Rattle.nodes.specs.Table.{RowIn, link_at, slot_at};
 
 use nodes::PlanLetter;
 
-#[derive(Drop)]
+#[derive(Clone, Copy)]
 pub struct Row {
     pub letter: i64,
     pub a: i64,

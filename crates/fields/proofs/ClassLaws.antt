@@ -1,6 +1,6 @@
 -- Laws of classes of fields and of their ranges.
 use Prim.Native.Nat.{◌+◌, ◌-◌, ◌<◌, ◌≤◌, ℕ}
-use borrow.Author.Tests.{eqb-true, le_leb, leb-true, lt-leb, ltb-false, ltb-true, ne_eqb}
+use borrow.Author.Tests.{eqb-true, le-leb, leb-true, lt-leb, ltb-false, ltb-true, ne_eqb}
 use lib.Dec.{eqb, leb}
 use lib.IntN.{nat_abs, negsuc, neg_ℤ, pos, ℤ}
 use lib.ListN.{get_or}
@@ -39,10 +39,10 @@ lt_le (negsuc a) (pos b) e = refl
 lt_le (negsuc a) (negsuc b) e = lt-leb a b (ltb-true b a e)
 
 ge_le : (a b : ℤ) → lt_z a b ≡ false → le_z b a ≡ true
-ge_le (pos a) (pos b) e = le_leb b a (ltb-false a b e)
+ge_le (pos a) (pos b) e = le-leb b a (ltb-false a b e)
 ge_le (pos a) (negsuc b) e = refl
 ge_le (negsuc a) (pos b) e = let z : ◌≡◌ {A = ℕ} 0 1 = cc in absurd (omega arith)
-ge_le (negsuc a) (negsuc b) e = le_leb a b (ltb-false b a e)
+ge_le (negsuc a) (negsuc b) e = le-leb a b (ltb-false b a e)
 
 -- a test of two signed numbers, as the machine makes it
 pub test_signed : (v w : ℤ) (t : Bool) → SFits w64 v → SFits w64 w → lt_z (to_z w64 (of_z w64 v)) (to_z w64 (of_z w64 w)) ≡ t → lt_z v w ≡ t
@@ -82,8 +82,8 @@ ranged_beyond r k none h = refl
 ranged_beyond r k (some z) h = rw (outside r.low r.high z k.low k.high h) refl
 
 figure_in : (z : ℤ) → nat_abs z ≤ 9000000000000 → between (neg_ℤ (pos 9000000000000)) (pos 9000000000000) z ≡ true
-figure_in (pos n) h = le_leb n 9000000000000 h
-figure_in (negsuc n) h = rw (le_leb n 8999999999999 (omega arith)) refl
+figure_in (pos n) h = le-leb n 9000000000000 h
+figure_in (negsuc n) h = rw (le-leb n 8999999999999 (omega arith)) refl
 
 -- ---- a digit alone
 
@@ -91,12 +91,12 @@ pub number_digit : (f : List ℕ) (c : ℕ) → f ≡ c ∷ [] → 48 ≤ c → 
 unfolding read_number read_natural value_of
 number_digit f c e l h =
     let q : 0 + (c - 48) ≡ c - 48 = omega arith in
-    rw (e, ne_eqb c 45 (λ q. omega arith), le_leb 48 c l, le_leb c 57 h, or_true (not (eqb c 48))) (ap (λ (n : ℕ). some (pos n)) q)
+    rw (e, ne_eqb c 45 (λ q. omega arith), le-leb 48 c l, le-leb c 57 h, or_true (not (eqb c 48))) (ap (λ (n : ℕ). some (pos n)) q)
 
 -- ---- by class
 
 high_in : (z : ℤ) → nat_abs z ≤ 9000000000000 → le_z z (pos 9000000000000) ≡ true
-high_in (pos n) h = le_leb n 9000000000000 h
+high_in (pos n) h = le-leb n 9000000000000 h
 high_in (negsuc n) h = refl
 
 pub by_class : (Q : Class → Range → Type 0) (c : ℕ)

@@ -5,6 +5,5 @@ pub mod FewDigits
 pub mod ClassLaws
 pub mod FieldLaws
 pub mod SettingLaws
-pub mod RepeatedSettings
 pub mod MonthParts
 pub mod MonthLaws

@@ -1,6 +1,6 @@
 -- Laws of a payoff's month: the row of settings as the code reads it is the definition's.
 use Prim.Native.Nat.{◌+◌, ◌-◌, ◌<◌, ◌^◌, ◌≤◌, suc, ℕ}
-use borrow.Author.Tests.{eq-eqb, eqb-false, eqb-true, le_leb, le-ltb, lt-leb, ltb-false, ltb-true, ne_eqb}
+use borrow.Author.Tests.{eq-eqb, eqb-false, eqb-true, le-leb, le-ltb, lt-leb, ltb-false, ltb-true, ne_eqb}
 use lib.Dec.{eqb, leb, ltb}
 use lib.IntN.{neg_ℤ, pos, ℤ}
 use lib.ListN.{drop, get_or, length}
@@ -147,7 +147,7 @@ by_bytes low n slot y c rest h = go (eqb y 43) (eqb c 43) refl refl
 -- what the code reads byte by byte is what the definition reads part by part
 row_is : (low n slot : ℕ) (l : List ℕ) → n ≤ 31 → Starts l → settings_from low n slot l ≡ summed low n slot (read_settings (behind (split_at 43 l)))
 unfolding settings_from read_settings read_setting split_at rising settings_slot
-row_is low n slot [] h s = rw (add-zero n, add-zero slot, le_leb n 31 h) refl
+row_is low n slot [] h s = rw (add-zero n, add-zero slot, le-leb n 31 h) refl
 row_is low n slot (x ∷ []) h s = rw (eq-eqb x 43 s) refl
 row_is low n slot (x ∷ y ∷ []) h s = rw (eq-eqb x 43 s) (go (eqb y 43))
   where

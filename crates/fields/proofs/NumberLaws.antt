@@ -1,6 +1,6 @@
 -- Laws of whole numbers, as the code reads them digit by digit.
 use Prim.Native.Nat.{◌*◌, ◌+◌, ◌-◌, ◌<◌, ◌≤◌, suc, zero, ℕ}
-use borrow.Author.Tests.{eq-eqb, eqb-false, eqb-true, le_leb, lt-leb, ne_eqb}
+use borrow.Author.Tests.{eq-eqb, eqb-false, eqb-true, le-leb, lt-leb, ne_eqb}
 use lib.Dec.{eqb}
 use lib.IntN.{◌-ℤ◌, +ℤ_idl, neg_ℤ, pos, ℤ}
 use lib.ListN.{drop, get_or, length}
@@ -35,7 +35,7 @@ going_start f at = record { same = refl; value = refl; place = refl }
 module _ (f rest : List ℕ) (v at i b : ℕ) (bs : List ℕ) (g : Going f rest v at i) (e : rest ≡ b ∷ bs) where
   pub going_more : 48 ≤ b → b ≤ 57 → Going f bs (v * 10 + (b - 48)) at (i + 1)
   going_more l h = record {
-    same = g.same ∙ ap digits e ∙ simp (le_leb 48 b l, le_leb b 57 h);
+    same = g.same ∙ ap digits e ∙ simp (le-leb 48 b l, le-leb b 57 h);
     value = g.value ∙ ap (foldl shift v) e;
     place = let q : length rest ≡ length (b ∷ bs) = ap length e in omega (arith, g.place);
   }
@@ -44,7 +44,7 @@ module _ (f rest : List ℕ) (v at i b : ℕ) (bs : List ℕ) (g : Going f rest 
   going_low h = g.same ∙ ap digits e ∙ simp (lt-leb 48 b h)
 
   pub going_high : 57 < b → digits f ≡ false
-  going_high h = let l : 48 ≤ b = omega arith in g.same ∙ ap digits e ∙ simp (le_leb 48 b l, lt-leb b 57 h)
+  going_high h = let l : 48 ≤ b = omega arith in g.same ∙ ap digits e ∙ simp (le-leb 48 b l, lt-leb b 57 h)
 
 larger : (v : ℕ) (bs : List ℕ) → v ≤ foldl shift v bs
 larger v [] = omega arith

@@ -1,8 +1,8 @@
 -- Laws of the fields from a byte on, and of the bytes up to the next comma or stop.
 use Prim.Native.Nat.{◌+◌, ◌-◌, ◌<◌, ◌≤◌, suc, zero, ℕ}
-use borrow.Author.Tests.{eq-eqb, le_leb, leb-false, leb-true, lt-leb, ne_eqb}
+use borrow.Author.Tests.{eq-eqb, le-leb, leb-false, leb-true, lt-leb, ne_eqb}
 use lib.Dec.{eqb, leb}
-use lib.ListN.{drop, drop_of_length-le, get_or, length, length_drop}
+use lib.ListN.{drop, drop_of_length-le, get_or, length, length-drop}
 use lib.Seq.{drop-cons}
 use mathlib.Core.Bool.{Bool, ◌||◌, cond, false, true}
 use mathlib.Core.List.{List, [], ◌∷◌}
@@ -58,7 +58,7 @@ up_length stop [] = omega arith
 up_length stop (b ∷ bs) = cut_length (eqb b 44 || eqb b stop) b (up_to stop bs) (length bs) (up_length stop bs)
 
 pub up_fits : (stop : ℕ) (text : List ℕ) (at : ℕ) → at ≤ length text → at + length (up_to stop (drop at text)) ≤ length text
-up_fits stop text at h = omega (arith, up_length stop (drop at text), length_drop at text)
+up_fits stop text at h = omega (arith, up_length stop (drop at text), length-drop at text)
 
 -- ---- the first field, and those behind it
 
@@ -66,7 +66,7 @@ leb_suc : (n m : ℕ) → leb (suc n) (suc m) ≡ leb n m
 leb_suc n m = go (leb n m) refl
   where
     go : (b : Bool) → leb n m ≡ b → leb (suc n) (suc m) ≡ leb n m
-    go true e = let h : n ≤ m = leb-true n m e in le_leb (suc n) (suc m) (omega arith) ∙ sym e
+    go true e = let h : n ≤ m = leb-true n m e in le-leb (suc n) (suc m) (omega arith) ∙ sym e
     go false e = let h : m < n = leb-false n m e in lt-leb (suc n) (suc m) (omega arith) ∙ sym e
 
 fields_cons : (b : ℕ) (bs : List ℕ) (n : ℕ) → fields_from (b ∷ bs) (suc n) ≡ fields_from bs n
@@ -80,7 +80,7 @@ fields_drop (b ∷ bs) (suc at) n h = fields_drop bs at n (omega arith) ∙ sym 
 
 pub at_start : (bs : List ℕ) → fields_from bs 0 ≡ split bs
 unfolding fields_from
-at_start bs = rw (le_leb 0 (length bs) (omega arith)) refl
+at_start bs = rw (le-leb 0 (length bs) (omega arith)) refl
 
 first_split : (l : List ℕ) → split l ≡ up_to 44 l ∷ fields_from l (length (up_to 44 l) + 1)
 unfolding split_at up_to fields_from
@@ -94,7 +94,7 @@ first_split (b ∷ bs) = go (eqb b 44) (first_split bs)
 
 pub from_inside : (text : List ℕ) (at : ℕ) → at ≤ length text → fields_from text at ≡ split (drop at text)
 unfolding fields_from
-from_inside text at h = simp (le_leb at (length text) h)
+from_inside text at h = simp (le-leb at (length text) h)
 
 pub from_behind : (text : List ℕ) (at : ℕ) → length text < at → fields_from text at ≡ []
 unfolding fields_from

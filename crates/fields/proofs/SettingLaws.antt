@@ -1,9 +1,9 @@
 -- Laws of settings as the code reads them: P and a digit, alone or in a row with plus signs.
 use Prim.Native.Nat.{◌+◌, ◌*◌, ◌-◌, ◌<◌, ◌^◌, ◌≤◌, min, suc, ℕ}
-use borrow.Author.Tests.{eqb-false, eqb-true, le_leb, le-ltb, leb-false, leb-true, lt-leb, lt-ltb, ltb-false, ltb-true, ne_eqb}
+use borrow.Author.Tests.{eqb-false, eqb-true, le-leb, le-ltb, leb-false, leb-true, lt-leb, lt-ltb, ltb-false, ltb-true, ne_eqb}
 use lib.Dec.{eqb, leb, ltb}
 use lib.IntN.{neg_ℤ, pos, ℤ}
-use lib.ListN.{drop, get_or, length, length_drop}
+use lib.ListN.{drop, get_or, length, length-drop}
 use mathlib.Core.Bool.{Bool, ◌||◌, cond, false, true}
 use mathlib.Core.List.{List, [], ◌∷◌}
 use mathlib.Core.Option.{Option, none, some}
@@ -30,7 +30,7 @@ P-low (b ∷ c ∷ r) h = refl
 pub P-high : (l : List ℕ) → 55 < get_or l 0 0 → read_setting (80 ∷ l) ≡ none
 unfolding read_setting
 P-high [] h = refl
-P-high (b ∷ []) h = let k : 48 ≤ b = omega arith in rw (le_leb 48 b k, lt-leb b 55 h) refl
+P-high (b ∷ []) h = let k : 48 ≤ b = omega arith in rw (le-leb 48 b k, lt-leb b 55 h) refl
 P-high (b ∷ c ∷ r) h = refl
 
 pub P-long : (l : List ℕ) → 1 < length l → read_setting (80 ∷ l) ≡ none
@@ -41,7 +41,7 @@ P-long (b ∷ c ∷ r) h = refl
 
 pub P-digit : (b : ℕ) → 48 ≤ b → b ≤ 55 → read_setting (80 ∷ b ∷ []) ≡ some (b - 48)
 unfolding read_setting
-P-digit b l h = rw (le_leb 48 b l, le_leb b 55 h) refl
+P-digit b l h = rw (le-leb 48 b l, le-leb b 55 h) refl
 
 -- ---- as a delay: such a field is no number
 
@@ -125,7 +125,7 @@ module _ (low n slot : ℕ) where
 
     row_more : low ≤ c - 48 → n < 31 → settings_from low n slot (43 ∷ 80 ∷ c ∷ rest) ≡ settings_from (c - 48) (n + 1) (slot + 32 ^ (c - 48)) rest
     unfolding settings_from
-    row_more k m = rw (P-digit c l h, le_leb low (c - 48) k, lt-ltb n 31 m) refl
+    row_more k m = rw (P-digit c l h, le-leb low (c - 48) k, lt-ltb n 31 m) refl
 
 -- ---- in a text: from byte `at` on, where the row has come to byte i
 
@@ -169,7 +169,7 @@ module _ (text : List ℕ) (at low slot i : ℕ) (r : Rowing text at low slot i)
         go true q = r.same ∙ row_many (low - 48) r.n slot (field_at text i) some_byte (leb-true 31 r.n q)
         go false q =
             let few : r.n < 31 = leb-false 31 r.n q in
-            r.same ∙ row_short (low - 48) r.n slot (field_at text i) some_byte (omega (arith, r.far, up_length 44 (drop i text), length_drop i text))
+            r.same ∙ row_short (low - 48) r.n slot (field_at text i) some_byte (omega (arith, r.far, up_length 44 (drop i text), length-drop i text))
 
     row_no_p : get_or text i 0 ≡ 43 → i + 1 < length text → (get_or text (i + 1) 0 ≡ 80 → ⊥) → settings_from 0 0 0 (field_at text at) ≡ none
     row_no_p e l k =

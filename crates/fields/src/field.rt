@@ -25,14 +25,14 @@ pub const DIVISOR: u8 = 6;
 
 pub const MONTH: u8 = 7;
 
-#[derive(Drop)]
+#[derive(Clone, Copy)]
 pub struct Range {
     pub low: i64,
     pub high: i64,
 }
 
 // A field that was read, as one number, and the byte where the next one starts.
-#[derive(Drop)]
+#[derive(Clone, Copy)]
 pub enum Taking {
     Value { value: i64, next: usize },
     Wrong,

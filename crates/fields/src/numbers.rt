@@ -3,13 +3,13 @@ ghost use Rattle.std.specs.Prelude.{◌≡◌, ◌+◌, ◌≤◌, ◌<◌, leng
 ghost use Rattle.fields.specs.Positions.{up_to};
 ghost use Rattle.fields.specs.Numbers.{DigitsAre, FewAre, NaturalIs, NumberIs, NumberTried, SmallNatural, plus, minus};
 
-#[derive(Drop)]
+#[derive(Clone, Copy)]
 pub enum Natural {
     Plain { value: u64, end: usize },
     Malformed,
 }
 
-#[derive(Drop)]
+#[derive(Clone, Copy)]
 pub enum Number {
     Is { value: i64, end: usize },
     Bad,

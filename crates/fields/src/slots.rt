@@ -11,14 +11,14 @@ use crate::field::{
 use crate::numbers::{Number, figure_at, read_number, short_number};
 use crate::settings::{quick_settings, read_setting};
 
-#[derive(Drop)]
+#[derive(Clone, Copy)]
 pub enum Taking2 {
     Values { a: i64, b: i64, next: usize },
     Wrongs,
 }
 
 // All fields of a node.
-#[derive(Drop)]
+#[derive(Clone, Copy)]
 pub enum Slots {
     Filled {
         a: i64,
@@ -30,7 +30,7 @@ pub enum Slots {
     Unfilled,
 }
 
-pub fn read_month(text: &[u8], at: usize) -> Taking2
+fn read_month(text: &[u8], at: usize) -> Taking2
     requires { at ≤ length text.now + 1 }
     ensures { MonthIs text.now at result }
 {

@@ -3,7 +3,7 @@ use Prim.Native.Nat.{◌+◌, ◌<◌, ◌≤◌, suc, zero, ℕ}
 use borrow.Author.Tests.{eq-eqb, lt-ltb, ne_eqb}
 use lib.Dec.{eqb, eqb→eq, ltb}
 use lib.IntN.{negsuc, pos, ℤ}
-use lib.ListN.{drop, length, length_append, length_set, set, take}
+use lib.ListN.{drop, length, length-append, length-set, set, take}
 use mathlib.Core.Bool.{Bool, ◌&&◌, false, true, true≢false}
 use mathlib.Core.List.{List, [], ◌++◌, ◌∷◌, append_assoc, append-nil}
 use mathlib.Core.Path.{◌∙◌, ◌≡◌, ap, ap₂, refl, subst, sym}

@@ -3,7 +3,7 @@ use Prim.Native.Nat.{◌+◌, ◌<◌, ◌≤◌, suc, zero, ℕ}
 use borrow.Author.Tests.{eq-eqb, lt-ltb}
 use lib.Dec.{ltb}
 use lib.IntN.{pos, ℤ}
-use lib.ListN.{drop, length, length_append, length_set, set, take}
+use lib.ListN.{drop, length, length-append, length-set, set, take}
 use mathlib.Core.Bool.{Bool, ◌&&◌, cond, false, true}
 use mathlib.Core.List.{List, [], ◌++◌, ◌∷◌, append_assoc, append-nil}
 use mathlib.Core.Path.{◌∙◌, ◌≡◌, ap, ap₂, refl, sym}
@@ -187,8 +187,8 @@ module _ {input : List ℕ} {at : ℕ} {months : ℤ} {before-b before-v : List 
             bs = g.bs ++ (bound ∷ []);
             vs = g.vs ++ i.values;
             is = let e : suc k ≡ k + 1 = omega arith in subst_label e now_is;
-            labels = length_append g.bs (bound ∷ []) ∙ omega (arith, g.labels);
-            total = length_append g.vs i.values ∙ omega (arith, g.total, i.counted);
+            labels = length-append g.bs (bound ∷ []) ∙ omega (arith, g.labels);
+            total = length-append g.vs i.values ∙ omega (arith, g.total, i.counted);
             size_b = sb;
             size_v = size ∙ g.size_v;
             holds_b = hb;
@@ -203,7 +203,7 @@ module _ {input : List ℕ} {at : ℕ} {months : ℤ} {before-b before-v : List 
               subst_label e h = rw (sym e) h
 
           pub indexed_kept : {v : ℤ} → v ≡ bound → k < length bounds → Indexed input at months before-b before-v (set bounds k v) after next (k + 1) (stored + count)
-          indexed_kept {v} ev h = grown (length_set bounds k v ∙ g.size_b)
+          indexed_kept {v} ev h = grown (length-set bounds k v ∙ g.size_b)
               (λ r. let e : k + 1 ≡ suc k = omega arith in rw e (take_next bounds k v h ∙ ap₂ (λ t w. t ++ (w ∷ [])) (g.holds_b (omega arith)) ev))
 
           pub indexed_full : length bounds ≤ k → Indexed input at months before-b before-v bounds after next (k + 1) (stored + count)

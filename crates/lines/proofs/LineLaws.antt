@@ -2,7 +2,7 @@
 use Prim.Native.Nat.{◌+◌, ◌-◌, ◌<◌, ◌≤◌, suc, zero, ℕ}
 use borrow.Author.Tests.{eq-eqb, ne_eqb}
 use lib.Dec.{eqb}
-use lib.ListN.{drop, drop_of_length-le, get_or, length, length_drop}
+use lib.ListN.{drop, drop_of_length-le, get_or, length, length-drop}
 use lib.Seq.{drop-drop}
 use mathlib.Core.Bool.{Bool, ◌||◌, cond, false, true, true≢false}
 use mathlib.Core.List.{List, [], ◌∷◌}
@@ -83,7 +83,7 @@ module _ (input : List ℕ) where
   pub next_line : (at : ℕ) → at < length input → lines_in (drop at input) ≡ line_of (drop at input) ∷ lines_in (drop (at + length (line_of (drop at input)) + 1) input)
   next_line at h =
       let e : at + length (line_of (drop at input)) + 1 ≡ at + (length (line_of (drop at input)) + 1) = omega arith in
-      go (drop at input) (omega (arith, length_drop at input)) ∙ ap (λ l. line_of (drop at input) ∷ lines_in l) (drop-drop (length (line_of (drop at input)) + 1) at input ∙ ap (λ k. drop k input) (sym e))
+      go (drop at input) (omega (arith, length-drop at input)) ∙ ap (λ l. line_of (drop at input) ∷ lines_in l) (drop-drop (length (line_of (drop at input)) + 1) at input ∙ ap (λ k. drop k input) (sym e))
     where
       go : (l : List ℕ) → 0 < length l → lines_in l ≡ line_of l ∷ lines_in (drop (length (line_of l) + 1) l)
       go [] k = absurd (omega arith)

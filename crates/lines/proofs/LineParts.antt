@@ -2,7 +2,7 @@
 use Prim.Native.Nat.{◌+◌, ◌-◌, ◌<◌, ◌≤◌, suc, zero, ℕ}
 use lib.Dec.{eqb, eqb→eq, leb}
 use lib.IntN.{nat_abs, ℤ}
-use lib.ListN.{drop, length, length_drop, length-take, take}
+use lib.ListN.{drop, length, length-drop, length-take, take}
 use mathlib.Core.Bool.{Bool, cond, false, true, true≢false}
 use mathlib.Core.List.{List, [], ◌∷◌}
 use mathlib.Core.Option.{Option, none, some}
@@ -43,10 +43,10 @@ take_line (b ∷ bs) = go (eqb b 10) (take_line bs)
 
 module _ (input : List ℕ) (at : ℕ) (h : at ≤ length input) {end : ℕ} (e : end ≡ at + length (line_of (drop at input))) where
   pub line_inside : end ≤ length input
-  line_inside = omega (arith, e, line_length (drop at input), length_drop at input)
+  line_inside = omega (arith, e, line_length (drop at input), length-drop at input)
 
   pub line_short : length (take (end - at) (drop at input)) ≤ length input
-  line_short = omega (arith, length-take (end - at) (drop at input), length_drop at input)
+  line_short = omega (arith, length-take (end - at) (drop at input), length-drop at input)
 
   pub line_bytes : take (end - at) (drop at input) ≡ line_of (drop at input)
   line_bytes = let k : end - at ≡ length (line_of (drop at input)) = omega (arith, e) in rw k (take_line (drop at input))

@@ -1,8 +1,8 @@
 -- The numbers of a line, field by field.
 use Prim.Native.Nat.{◌+◌, ◌<◌, ◌≤◌, suc, zero, ℕ}
-use borrow.Author.Tests.{le_leb, lt-leb}
+use borrow.Author.Tests.{le-leb, lt-leb}
 use lib.IntN.{nat_abs, pos, ℤ}
-use lib.ListN.{drop, length, length_append, length_set, set, take}
+use lib.ListN.{drop, length, length-append, length-set, set, take}
 use mathlib.Core.List.{List, [], ◌++◌, ◌∷◌, append_assoc, append-nil}
 use mathlib.Core.Option.{Option, none, some}
 use mathlib.Core.Path.{◌∙◌, ◌≡◌, ap, refl, sym}
@@ -25,7 +25,7 @@ module _ (line : List ℕ) (place : ℕ) (h : place ≤ length line) where
   unfolding numbers
   number_is {z} {end} s =
       let e : place + (length field + 1) ≡ end + 1 = omega (arith, s.ends) in
-      ap numbers (first_field line place h) ∙ ap (λ k. numbers (field ∷ fields_from line k)) e ∙ rw (s.is, le_leb (nat_abs z) max_amount s.small) refl
+      ap numbers (first_field line place h) ∙ ap (λ k. numbers (field ∷ fields_from line k)) e ∙ rw (s.is, le-leb (nat_abs z) max_amount s.small) refl
 
   pub number_inside : {z : ℤ} {end : ℕ} → Signed field place z end → (place ≤ end) × (end ≤ length line)
   number_inside s = (omega (arith, s.ends), omega (arith, s.ends, up_fits 44 line place h))
@@ -97,14 +97,14 @@ module _ {line : List ℕ} {at : ℕ} {before : List ℤ} {from : ℕ} where
           go (refused k) = refl
 
       longer : length (g.done ++ (z ∷ [])) ≡ n + 1
-      longer = length_append g.done (z ∷ []) ∙ omega (arith, g.count)
+      longer = length-append g.done (z ∷ []) ∙ omega (arith, g.count)
 
       pub going_kept : {v : ℤ} → v ≡ z → from + n < length into → Going line at before from (set into (from + n) v) (end + 1) (n + 1)
       going_kept {v} ev l = record {
         done = g.done ++ (z ∷ []);
         is = now_is;
         count = longer;
-        size = length_set into (from + n) v ∙ g.size;
+        size = length-set into (from + n) v ∙ g.size;
         holds = λ r.
             let e : from + (n + 1) ≡ suc (from + n) = omega arith in
             rw e (take_next into (from + n) v l ∙ ap (λ w. take (from + n) into ++ (w ∷ [])) ev ∙ ap (λ t. t ++ (z ∷ [])) (g.holds (omega arith)) ∙ append_assoc (take from before) g.done (z ∷ []));

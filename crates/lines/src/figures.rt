@@ -8,7 +8,7 @@ use fields::numbers;
 use fields::numbers::Number;
 
 // A row of at most seven digits, or another.
-#[derive(Drop)]
+#[derive(Clone, Copy)]
 pub enum Short {
     Ended { value: u64, end: usize },
     Other,

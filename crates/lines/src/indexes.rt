@@ -6,14 +6,14 @@ use crate::numbers::{Numbers, Two};
 use crate::{ends, numbers, words};
 
 // A label's bound, and how many values it has.
-#[derive(Drop)]
+#[derive(Clone, Copy)]
 pub enum Index {
     Is { bound: i64, count: usize },
     Fault,
 }
 
 // How many values a label must have.
-#[derive(Drop)]
+#[derive(Clone, Copy)]
 pub struct Months(pub i64);
 
 // One index line, its values written from place `from` on as far as there is room.
@@ -64,7 +64,7 @@ pub fn read_index(
 }
 
 // How many labels there are, and how many values in all.
-#[derive(Drop)]
+#[derive(Clone, Copy)]
 pub enum Labels {
     Are { labels: usize, values: usize },
     Fault,

@@ -15,7 +15,7 @@ pub mod parts;
 pub mod words;
 
 // What a sheet holds: where the plan's text stands, how many settings, factors, labels and values there are, span and pair.
-#[derive(Drop)]
+#[derive(Clone, Copy)]
 pub struct Sheet {
     pub from: usize,
     pub to: usize,
@@ -30,7 +30,7 @@ pub struct Sheet {
 }
 
 // The sheet, or a fault of the sheet itself.
-#[derive(Drop)]
+#[derive(Clone, Copy)]
 pub enum Sheeting {
     Read(Sheet),
     Fault,

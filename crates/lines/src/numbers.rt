@@ -7,7 +7,7 @@ use fields::numbers;
 use fields::numbers::Number;
 
 // How many numbers there are, or that one is malformed or too far from zero.
-#[derive(Drop)]
+#[derive(Clone, Copy)]
 pub enum Numbers {
     Count(usize),
     Fault,
@@ -40,7 +40,7 @@ pub fn read_numbers(line: &[u8], at: usize, into: &mut [i64], from: usize) -> Nu
 }
 
 // The first two numbers of a line, and the place behind them.
-#[derive(Drop)]
+#[derive(Clone, Copy)]
 pub enum Two {
     Are {
         first: i64,

@@ -6,7 +6,7 @@ use crate::numbers::{Numbers, Two};
 use crate::{ends, numbers, words};
 
 // Where the plan's text stands, and where the next line begins.
-#[derive(Drop)]
+#[derive(Clone, Copy)]
 pub enum Plan {
     Is { from: usize, to: usize, next: usize },
     Fault,
@@ -41,7 +41,7 @@ pub fn plan_line(input: &[u8]) -> Plan
 }
 
 // How many numbers a line has, and where the next line begins.
-#[derive(Drop)]
+#[derive(Clone, Copy)]
 pub enum Listed {
     Are { count: usize, next: usize },
     Fault,
@@ -73,7 +73,7 @@ pub fn number_line(input: &[u8], at: usize, word: &[u8], into: &mut [i64]) -> Li
 }
 
 // The two numbers of a line, and where the next line begins.
-#[derive(Drop)]
+#[derive(Clone, Copy)]
 pub enum Pair {
     Is {
         first: i64,

@@ -20,7 +20,7 @@ use Rattle.nodes.specs.declared.AmountLetter.TheVariants as letter
 use Rattle.nodes.specs.declared.AmountLetter.{AmountLetter}
 use Rattle.nodes.specs.declared.TestLetter.TheVariants as test
 use Rattle.nodes.specs.declared.TestLetter.{TestLetter}
-use borrow.Author.Tests.{le_leb, leb-true}
+use borrow.Author.Tests.{le-leb, leb-true}
 use lib.Dec.{T, leb}
 use lib.IntN.{nat_abs, negsuc, pos, ℤ}
 use lib.ListN.{get_or-eq_default, length}
@@ -102,11 +102,11 @@ module _ (bounds : List ℤ) where
 
     pub number_magnitude : l ≡ letter.Number → {r : ℕ} → r ≡ nat_abs (slot_at nodes at 1) → r ≡ whole
     unfolding amount_small magnitude_of_amount
-    number_magnitude t er = rw (amount_is h e t, le_leb (nat_abs (slot_at nodes at 1)) max_amount (number_ready h e t)) er
+    number_magnitude t er = rw (amount_is h e t, le-leb (nat_abs (slot_at nodes at 1)) max_amount (number_ready h e t)) er
 
     pub index_magnitude : l ≡ letter.Index → InBounds bounds → {k r : ℕ} → k ≡ nat_of (slot_at nodes at 1) → r ≡ bound k → r ≡ whole
     unfolding amount_small magnitude_of_amount
-    index_magnitude t b {k} ek er = rw (amount_is h e t, ← ek, le_leb (bound k) max_amount (bound_at bounds b.within k)) er
+    index_magnitude t b {k} ek er = rw (amount_is h e t, ← ek, le-leb (bound k) max_amount (bound_at bounds b.within k)) er
 
     pub no_amount_magnitude : l ≡ letter.NoAmount → 0 ≡ whole
     unfolding amount_small magnitude_of_amount

@@ -6,7 +6,7 @@ use Rattle.language.specs.Rules.Tests.{not_later}
 use Rattle.language.specs.Text.Trees.{Plan, both, later, nothing, scale, transfer, within}
 use Rattle.measures.specs.Timing.{FewMonths, first_month, latest_month, never_month}
 use Rattle.nodes.specs.Table.{nat_of}
-use borrow.Author.Tests.{eqb-false, eqb-true, le_leb, leb-false, leb-true}
+use borrow.Author.Tests.{eqb-false, eqb-true, le-leb, leb-false, leb-true}
 use lib.Dec.{eqb, leb}
 use lib.IntN.{negsuc, pos, ℤ}
 use lib.Signed.{le_z}
@@ -90,10 +90,10 @@ later_latest (at_most i) (at_most j) = whole_most i j
 
 not_after : (i : ℤ) (n : ℕ) → leb (nat_of i) n ≡ le_z i (pos n)
 not_after (pos m) n = refl
-not_after (negsuc m) n = le_leb 0 n (omega arith)
+not_after (negsuc m) n = le-leb 0 n (omega arith)
 
 pub in_time_from : (y : Latest) (n : ℕ) → leb (latest_month y) n ≡ not_later y (from n)
-in_time_from no_month n = le_leb 0 n (omega arith)
+in_time_from no_month n = le-leb 0 n (omega arith)
 in_time_from (at_most i) n = not_after i n
 
 pub in_time_never : (y : Latest) (x : First) → FewMonths x → first_month x ≡ never_month → true ≡ not_later y x

@@ -3,7 +3,7 @@ use Prim.Native.Nat.{◌*◌, ◌+◌, ◌/◌, ◌<◌, ◌≤◌, max, ℕ}
 use Rattle.language.proofs.Truth.{and_e}
 use Rattle.language.specs.Limits.{max_amount}
 use Rattle.measures.specs.Magnitudes.{beyond, joined, measured}
-use borrow.Author.Tests.{le_leb, leb-false, leb-true, lt-leb}
+use borrow.Author.Tests.{le-leb, leb-false, leb-true, lt-leb}
 use lib.Dec.{leb}
 use mathlib.Core.Bool.{Bool, ◌&&◌, cond, false, true}
 use mathlib.Core.Path.{◌∙◌, ◌≡◌, ap₂, refl, sym}
@@ -24,7 +24,7 @@ no_third false q r e = refl
 module _ (op : ℕ → ℕ → ℕ) (a b : ℕ) where
   pub within_joined : a ≤ max_amount → b ≤ max_amount → op a b ≤ max_amount → op a b ≡ joined op a b
   unfolding joined
-  within_joined i j k = rw (le_leb a max_amount i, le_leb b max_amount j, le_leb (op a b) max_amount k) refl
+  within_joined i j k = rw (le-leb a max_amount i, le-leb b max_amount j, le-leb (op a b) max_amount k) refl
 
   not_joined : (leb a max_amount && (leb b max_amount && leb (op a b) max_amount)) ≡ false → beyond ≡ joined op a b
   unfolding joined
@@ -68,8 +68,8 @@ module _ (op : ℕ → ℕ → ℕ) (p q : Bool) (m n : ℕ) (hm : p ≡ true �
   joined_measured ea eb er = er ∙ ap₂ (joined op) ea eb ∙ by p q hm hn
     where
       by : (p q : Bool) → (p ≡ true → m ≤ max_amount) → (q ≡ true → n ≤ max_amount) → joined op (measured p m) (measured q n) ≡ measured (p && (q && leb (op m n) max_amount)) (op m n)
-      by true true i j = rw (le_leb m max_amount (i refl), le_leb n max_amount (j refl)) refl
-      by true false i j = rw (le_leb m max_amount (i refl)) refl
+      by true true i j = rw (le-leb m max_amount (i refl), le-leb n max_amount (j refl)) refl
+      by true false i j = rw (le-leb m max_amount (i refl)) refl
       by false q i j = refl
 
 -- where a test is small
@@ -89,7 +89,7 @@ module _ (p : Bool) (n : ℕ) (h : p ≡ true → n ≤ max_amount) where
   within_measured ea = rw ea (by p h)
     where
       by : (p : Bool) → (p ≡ true → n ≤ max_amount) → leb (measured p n) max_amount ≡ p
-      by true i = le_leb n max_amount (i refl)
+      by true i = le-leb n max_amount (i refl)
       by false i = refl
 
   -- a limit that is known already
@@ -97,7 +97,7 @@ module _ (p : Bool) (n : ℕ) (h : p ≡ true → n ≤ max_amount) where
   again = by p h
     where
       by : (p : Bool) → (p ≡ true → n ≤ max_amount) → (p && leb n max_amount) ≡ p
-      by true i = le_leb n max_amount (i refl)
+      by true i = le-leb n max_amount (i refl)
       by false i = refl
 
 -- the last of three tests that hold

@@ -17,7 +17,7 @@ use lib.Dec.{ltb}
 use lib.IntN.{◌+ℤ◌, ◌-ℤ◌, neg_ℤ, pos, ℤ}
 use lib.ListN.{length}
 use lib.Signed.{le_z}
-use mathlib.Core.Bool.{Bool, ◌&&◌, and_assoc, and_false, and_true, false, true}
+use mathlib.Core.Bool.{Bool, ◌&&◌, and_assoc, and-false, and-true, false, true}
 use mathlib.Core.List.{List}
 use mathlib.Core.Path.{◌∙◌, ◌≡◌, ap, ap₂, refl, subst, sym}
 use native.Mathlib.Omega.{arith}
@@ -59,7 +59,7 @@ ends : (p l h m k : Bool) → (l ≡ true → m ≡ true) → (k ≡ true → h 
 ends false l h m k f g = refl
 ends true false h m k f g = refl
 ends true true h m true f g = rw (f refl, g refl) refl
-ends true true h m false f g = rw (f refl, and_false h) refl
+ends true true h m false f g = rw (f refl, and-false h) refl
 
 module _ {low high : ℤ} {labels : ℕ} {t : Table} {a z : ℕ} (s : Seen low high labels t a z) where
   pub window_reads : (l : ℕ) (i : ℤ) → (readable t l (pos a +ℤ i) && readable t l (pos z +ℤ i)) ≡ in_window (window_for low high labels) l i
@@ -73,7 +73,7 @@ module _ {low high : ℤ} {labels : ℕ} {t : Table} {a z : ℕ} (s : Seen low h
   unfolding amount_reads test_reads
   reads_join = record {
     first_none = λ x. refl;
-    second_none = and_true;
+    second_none = and-true;
     assoc = and_assoc;
     of_number = λ n. refl;
     of_index = λ l i. window_reads l i;
@@ -118,10 +118,10 @@ module _ {w : Window} {nodes : List ℤ} {from to at : ℕ} {reads : Bool} (p : 
 
   -- a row that is no `O`
   pub passed_other : at < to → holds_index (slot_at nodes at 0) ≡ false → Passed w nodes from to (at + 1) reads
-  passed_other h e = subst (Passed w nodes from to (at + 1)) (and_true reads) (passed_row h (rw e refl))
+  passed_other h e = subst (Passed w nodes from to (at + 1)) (and-true reads) (passed_row h (rw e refl))
 
   pub passed_all : to ≤ at → reads ≡ rows_read w nodes (to - from) from
   unfolding rows_of
   passed_all h =
       let n : to - at ≡ zero = omega arith in
-      sym (p.left ∙ ap (λ k. reads && rows_read w nodes k at) n ∙ and_true reads)
+      sym (p.left ∙ ap (λ k. reads && rows_read w nodes k at) n ∙ and-true reads)

@@ -14,7 +14,7 @@ use Rattle.nodes.specs.Letters.{letter_of_amount}
 use Rattle.nodes.specs.Table.{nat_of, slot_at}
 use Rattle.nodes.specs.declared.AmountLetter.TheVariants as letter
 use Rattle.nodes.specs.declared.AmountLetter.{AmountLetter}
-use borrow.Author.Tests.{le_leb}
+use borrow.Author.Tests.{le-leb}
 use lib.IntN.{nat_abs, ℤ}
 use mathlib.Core.Bool.{true}
 use mathlib.Core.List.{List}
@@ -65,18 +65,18 @@ module _ (bound : ℕ → ℕ) where
     unfolding summed summed_test amount_small test_is_small magnitude_of_amount
 
     amount_sum : (a : Amount ℤ) → summed a ≤ max_amount → (amount_small bound a ≡ true) × (magnitude_of_amount bound a ≡ summed a)
-    amount_sum (number n) h = (le_leb (nat_abs n) max_amount (omega (arith, h)), omega (arith, h))
-    amount_sum (index l i) h = (le_leb (bound l) max_amount h, refl)
+    amount_sum (number n) h = (le-leb (nat_abs n) max_amount (omega (arith, h)), omega (arith, h))
+    amount_sum (index l i) h = (le-leb (bound l) max_amount h, refl)
     amount_sum (sum a b) h =
         let x = amount_sum a (omega (arith, h)) in
         let y = amount_sum b (omega (arith, h)) in
-        (rw (x.0, y.0, x.1, y.1) (le_leb (summed a + summed b) max_amount h), ap₂ ◌+◌ x.1 y.1)
+        (rw (x.0, y.0, x.1, y.1) (le-leb (summed a + summed b) max_amount h), ap₂ ◌+◌ x.1 y.1)
     amount_sum (difference a b) h =
         let x = amount_sum a (omega (arith, h)) in
         let y = amount_sum b (omega (arith, h)) in
-        (rw (x.0, y.0, x.1, y.1) (le_leb (summed a + summed b) max_amount h), ap₂ ◌+◌ x.1 y.1)
+        (rw (x.0, y.0, x.1, y.1) (le-leb (summed a + summed b) max_amount h), ap₂ ◌+◌ x.1 y.1)
     amount_sum (product a b) h = absurd (omega (arith, h))
-    amount_sum (quotient n a) h = let x = amount_sum a h in (rw (x.0, x.1) (le_leb (summed a) max_amount h), x.1)
+    amount_sum (quotient n a) h = let x = amount_sum a h in (rw (x.0, x.1) (le-leb (summed a) max_amount h), x.1)
     amount_sum (choose t a b) h = absurd (omega (arith, h))
 
     test_sum : (t : Test ℤ) → summed_test t ≤ max_amount → test_is_small bound t ≡ true

@@ -18,7 +18,7 @@ use Rattle.measures.specs.Sure.{Sure, SureOf}
 use Rattle.measures.specs.Timing.{first_month, latest_month, never_month}
 use Rattle.measures.specs.declared.plan.Measures.{Measures}
 use Rattle.nodes.specs.Table.{nat_of}
-use borrow.Author.Tests.{le_leb, leb-true}
+use borrow.Author.Tests.{le-leb, leb-true}
 use lib.Dec.{leb}
 use lib.IntN.{◌+ℤ◌, ◌-ℤ◌, nat_abs, negsuc, pos, ℤ}
 use lib.Signed.{lt_z}
@@ -57,7 +57,7 @@ module _ (op : ℕ → ℕ → ℕ) (a b : ℕ) where
 -- what is needed is known where the walk found it timely
 known_by : {k n : ℕ} → min k never_month ≤ n → whole.InTime k n true
 known_by h y never few ek en = in_time_never y never few refl
-known_by h y (from m) few ek en = sym (le_leb (latest_month y) m (omega (arith, h, few, ek, en))) ∙ in_time_from y m
+known_by h y (from m) few ek en = sym (le-leb (latest_month y) m (omega (arith, h, few, ek, en))) ∙ in_time_from y m
 
 -- ---- measures and sureness
 
@@ -77,7 +77,7 @@ module _ {t : Table} {a z : ℕ} {bound : ℕ → ℕ} where
   from_measures : {need : ℕ} {high : ℤ} {x : Plan ℕ} {r : ℕ} (m : Measures) → MeasuresOf t a z bound x m → m.known ≡ true → m.reads ≡ true
       → m.magnitude ≡ r / 1024 → r / 1024 ≤ max_amount → min need never_month ≤ m.first → high ≡ pos (m.length + r % 1024) → Sure t a z bound need high x r
   from_measures {x = x} {r = r} m h ek er em i et el =
-      let y : plan_small bound x ≡ true = sym (plan_within bound x h.magnitude) ∙ le_leb m.magnitude max_amount (omega (arith, em, i)) in
+      let y : plan_small bound x ≡ true = sym (plan_within bound x h.magnitude) ∙ le-leb m.magnitude max_amount (omega (arith, em, i)) in
       record {
         known = sym h.known ∙ ek;
         timely = omega (arith, et, h.first);

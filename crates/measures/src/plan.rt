@@ -19,7 +19,7 @@ use integers::Month;
 use nodes::PlanLetter;
 
 // A plan's measures; known: all of it is known in time.
-#[derive(Drop)]
+#[derive(Clone, Copy)]
 pub struct Measures {
     pub length: u64,
     pub first: u64,

@@ -9,7 +9,7 @@ use crate::node;
 use integers::Month;
 
 // The offsets that can be read, and how many labels.
-#[derive(Drop)]
+#[derive(Clone, Copy)]
 pub struct Window {
     pub low: i64,
     pub high: i64,

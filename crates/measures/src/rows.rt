@@ -9,7 +9,7 @@ use crate::{first, limit, magnitude, node, reads};
 use nodes::AmountLetter;
 
 // What rows that stand together give.
-#[derive(Drop)]
+#[derive(Clone, Copy)]
 pub struct Rows {
     pub latest: u64,
     pub magnitude: u64,

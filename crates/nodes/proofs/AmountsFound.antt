@@ -1,7 +1,7 @@
 -- An amount or test that lies in the table is found there, and a walk of it stays in the table.
 use Prim.Native.Nat.{◌*◌, ◌+◌, ◌≤◌, suc, zero, ℕ}
 use lib.IntN.{pos, ℤ}
-use lib.ListN.{drop, get_or, length, length_append, length_drop}
+use lib.ListN.{drop, get_or, length, length-append, length-drop}
 use mathlib.Core.List.{List, [], ◌++◌, ◌∷◌}
 use mathlib.Core.Path.{◌∙◌, ◌≡◌, ap, ap₂, refl, subst}
 use native.Mathlib.Omega.{arith}
@@ -49,7 +49,7 @@ module _ {P : Type 0} (form : Form P) (nodes : List ℤ) where
   unfolding count_of
   room {at} {t} l fs c h =
       let n : length (drop (at * 5) nodes) ≡ length (rows form (node l fs c t) ++ h.rest) = ap length h.is in
-      (omega (arith, h.room), omega (arith, n, length_drop (at * 5) nodes, length_append (rows form (node l fs c t)) h.rest, rows_length form (node l fs c t)))
+      (omega (arith, h.room), omega (arith, n, length-drop (at * 5) nodes, length-append (rows form (node l fs c t)) h.rest, rows_length form (node l fs c t)))
 
   pub byte_at : {at : ℕ} {t : Trees P} (l : Letter P) (fs : _) (c : Trees P) → Laid form nodes at (node l fs c t) → slot_at nodes at 0 ≡ pos (row_of form l).letter
   byte_at l fs c h = laid_slot form nodes l fs h 0 (omega arith)

@@ -2,7 +2,7 @@
 use Prim.Native.Nat.{◌*◌, ◌+◌, ◌<◌, ◌≤◌, ℕ}
 use lib.Dec.{T}
 use lib.IntN.{pos, ℤ}
-use lib.ListN.{get_or-append, drop, get_or, length, length_append}
+use lib.ListN.{get_or-append, drop, get_or, length, length-append}
 use lib.Seq.{drop_at, drop-drop, get_or-drop}
 use lib.Signed.{non_neg}
 use mathlib.Core.List.{List, [], ◌++◌, ◌∷◌, append_assoc}
@@ -24,8 +24,8 @@ module _ {P : Type 0} where
   unfolding rows count_of
   rows_length form end = refl
   rows_length form (node l fs c t) =
-      length_append (row_for (row_of form l).letter (slots_of fs) c) (rows form c ++ rows form t)
-      ∙ omega (arith, row_length (row_of form l).letter (slots_of fs) c, length_append (rows form c) (rows form t), rows_length form c, rows_length form t)
+      length-append (row_for (row_of form l).letter (slots_of fs) c) (rows form c ++ rows form t)
+      ∙ omega (arith, row_length (row_of form l).letter (slots_of fs) c, length-append (rows form c) (rows form t), rows_length form c, rows_length form t)
 
   -- there is a first tree
   abbrev pub IsNode : Trees P → Type 0

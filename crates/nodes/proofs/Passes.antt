@@ -1,7 +1,7 @@
 -- A loop over the first rows that changes each: what holds while it goes on, and at its end.
 use Prim.Native.Nat.{◌*◌, ◌+◌, ◌-◌, ◌<◌, ◌≤◌, suc, ℕ}
 use lib.IntN.{ℤ}
-use lib.ListN.{drop, length, length_append, length_drop, set, take, take-append-drop}
+use lib.ListN.{drop, length, length-append, length-drop, set, take, take-append-drop}
 use lib.Seq.{drop_at, drop-drop, drop-set-add, length-take-le, set-append_left, take_at, take-set-le}
 use mathlib.Core.Bool.{Bool, false, true}
 use mathlib.Core.List.{List, ◌++◌, append_assoc}
@@ -10,7 +10,7 @@ use native.Mathlib.Omega.{arith}
 use Rattle.nodes.specs.Pass.{all_rows, map_rows, row_from, with_row}
 
 pub row_size : (at : ℕ) (nodes : List ℤ) → at + 5 ≤ length nodes → length (row_from at nodes) ≡ 5
-row_size at nodes h = length-take-le 5 (drop at nodes) (omega (arith, length_drop at nodes))
+row_size at nodes h = length-take-le 5 (drop at nodes) (omega (arith, length-drop at nodes))
 
 -- one number of a row set
 pub set_in_row : (at k : ℕ) (v : ℤ) (nodes : List ℤ) → k < 5 → at + 5 ≤ length nodes → set nodes (at + k) v ≡ with_row at (set (row_from at nodes) k v) nodes
@@ -53,14 +53,14 @@ module _ (f : List ℤ → List ℤ) (p : List ℤ → Bool) (count : ℕ) (befo
         let n : count - i ≡ suc (count - (i + 1)) = omega arith in
         let r = passing_room l in
         let t : length (take at now) ≡ at = length-take-le at now (omega arith) in
-        let s : length (take at now ++ f (row_from at now)) ≡ at + 5 = omega (arith, length_append (take at now) (f (row_from at now))) in
+        let s : length (take at now ++ f (row_from at now)) ≡ at + 5 = omega (arith, length-append (take at now) (f (row_from at now))) in
         let b : after ≡ (take at now ++ f (row_from at now)) ++ drop (at + 5) now = a ∙ sym (append_assoc (take at now) (f (row_from at now)) (drop (at + 5) now)) in
         let d : drop (at + 5) after ≡ drop (at + 5) now = ap (drop (at + 5)) b ∙ drop_at (take at now ++ f (row_from at now)) (drop (at + 5) now) (at + 5) s in
         let k : take (at + 5) after ≡ take at now ++ f (row_from at now) = ap (take (at + 5)) b ∙ take_at (take at now ++ f (row_from at now)) (drop (at + 5) now) (at + 5) s in
         record {
           within = omega arith;
           place = omega (arith, h.place);
-          size = omega (arith, ap length b, length_append (take at now ++ f (row_from at now)) (drop (at + 5) now), length_drop (at + 5) now, h.size);
+          size = omega (arith, ap length b, length-append (take at now ++ f (row_from at now)) (drop (at + 5) now), length-drop (at + 5) now, h.size);
           tests = h.tests ∙ rw n (rw e (ap (all_rows p (count - (i + 1))) (drop-drop 5 at now ∙ sym d)));
           rows = h.rows ∙ rw n (sym (append_assoc (take at now) (f (row_from at now)) (map_rows f (count - (i + 1)) (drop 5 (drop at now)))) ∙ ap (λ x. x ++ map_rows f (count - (i + 1)) (drop 5 (drop at now))) (sym k) ∙ ap (λ x. take (at + 5) after ++ map_rows f (count - (i + 1)) x) (drop-drop 5 at now ∙ sym d));
         }

@@ -1,6 +1,6 @@
 -- Sorted settings come back from their digits in base 32.
 use Prim.Native.Nat.{◌%◌, ◌*◌, ◌+◌, ◌-◌, ◌/◌, ◌<◌, ◌^◌, ◌≤◌, suc, zero, ℕ}
-use lib.ListN.{length, length_append, length-replicate, replicate}
+use lib.ListN.{length, length-append, length-replicate, replicate}
 use mathlib.Core.List.{List, [], ◌++◌, ◌∷◌}
 use mathlib.Core.Path.{◌∙◌, ◌≡◌, ap, refl, sym}
 use native.Mathlib.Decide.{dec_lt}
@@ -76,7 +76,7 @@ back (suc n) k ks e b s l = by (front k ks b s) (λ js g m. back n (suc k) js (o
     by : Front k ks → ((js : List ℕ) → none_below (suc k) js × Sorted js → length js ≤ 31 → settings_from n (suc k) (digits_from (suc k) js) ≡ js) → settings_from (suc n) k (digits_from k ks) ≡ ks
     by f ih =
         let c = ap length f.is in
-        let m = length_append (replicate f.count k) f.rest in
+        let m = length-append (replicate f.count k) f.rest in
         let r = length-replicate f.count k in
         let p : digits_from k ks % 32 ≡ f.count = omega (arith, f.digits) in
         let q : digits_from k ks / 32 ≡ digits_from (suc k) f.rest = omega (arith, f.digits) in

@@ -5,7 +5,7 @@ ghost use Rattle.std.specs.Int.Signed.{non_neg};
 ghost use Rattle.nodes.specs.Table.{RowIn, slot_at, link_at};
 ghost use Rattle.nodes.specs.Letters.{letter_of_plan, letter_of_payoff, letter_of_amount, letter_of_test};
 
-#[derive(Drop)]
+#[derive(Clone, Copy)]
 pub enum PlanLetter {
     Nothing,
     Transfer,
@@ -16,7 +16,7 @@ pub enum PlanLetter {
     NoPlan,
 }
 
-#[derive(Drop)]
+#[derive(Clone, Copy)]
 pub enum PayoffLetter {
     Nil,
     Uncut,
@@ -27,7 +27,7 @@ pub enum PayoffLetter {
     NoPayoff,
 }
 
-#[derive(Drop)]
+#[derive(Clone, Copy)]
 pub enum AmountLetter {
     Number,
     Index,
@@ -39,7 +39,7 @@ pub enum AmountLetter {
     NoAmount,
 }
 
-#[derive(Drop)]
+#[derive(Clone, Copy)]
 pub enum TestLetter {
     Less,
     Equal,

@@ -1,6 +1,6 @@
 -- An amount and a test that are read and keep the rules, from their parts, letter by letter.
 use Prim.Native.Nat.{◌*◌, ◌+◌, ◌-◌, ◌<◌, ◌≤◌, max, ℕ}
-use borrow.Author.Tests.{le_leb, lt-ltb}
+use borrow.Author.Tests.{le-leb, lt-ltb}
 use lib.IntN.{nat_abs, pos, ℤ}
 use lib.ListN.{length}
 use lib.Signed.{le_z}
@@ -29,13 +29,25 @@ use Rattle.text.proofs.QuickLaws.{sole}
 use Rattle.one_pass.specs.Packed.{Joined, Kept, Packed, behind, magnitude_in, months_in}
 use Rattle.one_pass.specs.Reads.{Here, Reads, Short}
 use Rattle.one_pass.specs.Seen.{AmountSeen, DivisorSeen, TestSeen}
-use Rattle.one_pass.proofs.Reading.{bare_opened, child, here_opened, whole}
+use Rattle.one_pass.proofs.Reading.{Opened, child, opened, whole}
 
 -- the later of two reads
 later : (p q : Latest) {x y r : ℕ} → x ≡ latest_month p → y ≡ latest_month q → r ≡ max x y → r ≡ latest_month (later_of p q)
 later p q ex ey er = er ∙ ap₂ max ex ey ∙ sym (later_latest p q)
 
 module _ (text : List ℕ) (short : Short text) (left at : ℕ) (level : 0 < left) where
+  -- a letter in front of a comma, and its fields
+  pub here_opened : {b : ℕ} → Here text at b → (b ≡ 44 → ⊥) → (l : Letter PlanLetter) → letter_in plan_form (b ∷ []) ≡ some l → (k : Kind) → of_same_kind k (kind_of plan_form l) ≡ true
+      → {vs : List Field} {next : ℕ} (cs : List Class) → (row_of plan_form l).fields ≡ cs → ReadUpTo cs text (at + 2) vs next
+      → (js : List Kind) → (row_of plan_form l).children ≡ js → Opened left k text at next js (node l vs)
+  here_opened {b} h other l find k same cs ec f js ej =
+      opened text short left at level (omega (arith, h.room)) b (sole text at 0 (omega (arith, h.room)) h.comma b h.letter other) l find k same cs ec f js ej
+
+  -- one without fields
+  pub bare_opened : {b : ℕ} → Here text at b → (b ≡ 44 → ⊥) → (l : Letter PlanLetter) → letter_in plan_form (b ∷ []) ≡ some l → (k : Kind) → of_same_kind k (kind_of plan_form l) ≡ true
+      → (row_of plan_form l).fields ≡ [] → (js : List Kind) → (row_of plan_form l).children ≡ js → Opened left k text at (at + 2) js (node l [])
+  bare_opened h other l find k same ec js ej = here_opened h other l find k same [] ec (read_none text (at + 2) (omega (arith, h.room))) js ej
+
   module _ (low high : ℤ) (bounds : List ℤ) where
     abbrev Seen : ℕ → Type 0
     Seen r = AmountSeen text left at low high bounds r
@@ -56,10 +68,10 @@ module _ (text : List ℕ) (short : Short text) (left at : ℕ) (level : 0 < lef
     unfolding letter_in letter_among row_of plan_row amount_row test_row amount_tree amount_reads amount_small magnitude_of_amount latest_of
     number_seen z h f k em el = record {
       amount = number z;
-      is = whole (here_opened plan_form text short left at level h (λ e. omega arith) (of_amount AmountLetter.N) refl amount refl (figure ∷ []) refl f [] refl);
+      is = whole (here_opened h (λ e. omega arith) (of_amount AmountLetter.N) refl amount refl (figure ∷ []) refl f [] refl);
       reads = λ t a y s. refl;
       latest = el;
-      small = le_leb (nat_abs z) max_amount (omega (arith, k, em));
+      small = le-leb (nat_abs z) max_amount (omega (arith, k, em));
       magnitude = em;
     }
 
@@ -68,10 +80,10 @@ module _ (text : List ℕ) (short : Short text) (left at : ℕ) (level : 0 < lef
     unfolding letter_in letter_among row_of plan_row amount_row test_row amount_tree amount_reads amount_small magnitude_of_amount latest_of
     index_seen l i h f el ea ez k em en = record {
       amount = index l i;
-      is = whole (here_opened plan_form text short left at level h (λ e. omega arith) (of_amount AmountLetter.O) refl amount refl (label ∷ from_node ∷ []) refl f [] refl);
+      is = whole (here_opened h (λ e. omega arith) (of_amount AmountLetter.O) refl amount refl (label ∷ from_node ∷ []) refl f [] refl);
       reads = λ t a z s. window_reads s l i ∙ rw (lt-ltb l (length bounds) el, ea, ez) refl;
       latest = en;
-      small = le_leb (bound_in bounds l) max_amount (omega (arith, k, em));
+      small = le-leb (bound_in bounds l) max_amount (omega (arith, k, em));
       magnitude = em;
     }
 
@@ -84,10 +96,10 @@ module _ (text : List ℕ) (short : Short text) (left at : ℕ) (level : 0 < lef
           let e : magnitude_in r ≡ magnitude_of_amount (bound_in bounds) p.amount + magnitude_of_amount (bound_in bounds) q.amount = j.packed.magnitude ∙ ap₂ ◌+◌ p.magnitude q.magnitude in
           record {
             amount = sum p.amount q.amount;
-            is = rw j.packed.place (whole (child (child (bare_opened plan_form text short left at level h (λ e. omega arith) (of_amount AmountLetter.A) refl amount refl refl (amount ∷ amount ∷ []) refl) p.is) q.is));
+            is = rw j.packed.place (whole (child (child (bare_opened h (λ e. omega arith) (of_amount AmountLetter.A) refl amount refl refl (amount ∷ amount ∷ []) refl) p.is) q.is));
             reads = λ t a z s. rw (p.reads t a z s, q.reads t a z s) refl;
             latest = later (latest_of p.amount) (latest_of q.amount) p.latest q.latest j.packed.months;
-            small = rw (p.small, q.small) (le_leb (magnitude_of_amount (bound_in bounds) p.amount + magnitude_of_amount (bound_in bounds) q.amount) max_amount (omega (arith, k, e)));
+            small = rw (p.small, q.small) (le-leb (magnitude_of_amount (bound_in bounds) p.amount + magnitude_of_amount (bound_in bounds) q.amount) max_amount (omega (arith, k, e)));
             magnitude = e;
           }
 
@@ -97,10 +109,10 @@ module _ (text : List ℕ) (short : Short text) (left at : ℕ) (level : 0 < lef
           let e : magnitude_in r ≡ magnitude_of_amount (bound_in bounds) p.amount + magnitude_of_amount (bound_in bounds) q.amount = j.packed.magnitude ∙ ap₂ ◌+◌ p.magnitude q.magnitude in
           record {
             amount = difference p.amount q.amount;
-            is = rw j.packed.place (whole (child (child (bare_opened plan_form text short left at level h (λ e. omega arith) (of_amount AmountLetter.U) refl amount refl refl (amount ∷ amount ∷ []) refl) p.is) q.is));
+            is = rw j.packed.place (whole (child (child (bare_opened h (λ e. omega arith) (of_amount AmountLetter.U) refl amount refl refl (amount ∷ amount ∷ []) refl) p.is) q.is));
             reads = λ t a z s. rw (p.reads t a z s, q.reads t a z s) refl;
             latest = later (latest_of p.amount) (latest_of q.amount) p.latest q.latest j.packed.months;
-            small = rw (p.small, q.small) (le_leb (magnitude_of_amount (bound_in bounds) p.amount + magnitude_of_amount (bound_in bounds) q.amount) max_amount (omega (arith, k, e)));
+            small = rw (p.small, q.small) (le-leb (magnitude_of_amount (bound_in bounds) p.amount + magnitude_of_amount (bound_in bounds) q.amount) max_amount (omega (arith, k, e)));
             magnitude = e;
           }
 
@@ -110,10 +122,10 @@ module _ (text : List ℕ) (short : Short text) (left at : ℕ) (level : 0 < lef
           let e : magnitude_in r ≡ magnitude_of_amount (bound_in bounds) p.amount * magnitude_of_amount (bound_in bounds) q.amount = j.packed.magnitude ∙ ap₂ ◌*◌ p.magnitude q.magnitude in
           record {
             amount = product p.amount q.amount;
-            is = rw j.packed.place (whole (child (child (bare_opened plan_form text short left at level h (λ e. omega arith) (of_amount AmountLetter.K) refl amount refl refl (amount ∷ amount ∷ []) refl) p.is) q.is));
+            is = rw j.packed.place (whole (child (child (bare_opened h (λ e. omega arith) (of_amount AmountLetter.K) refl amount refl refl (amount ∷ amount ∷ []) refl) p.is) q.is));
             reads = λ t a z s. rw (p.reads t a z s, q.reads t a z s) refl;
             latest = later (latest_of p.amount) (latest_of q.amount) p.latest q.latest j.packed.months;
-            small = rw (p.small, q.small) (le_leb (magnitude_of_amount (bound_in bounds) p.amount * magnitude_of_amount (bound_in bounds) q.amount) max_amount (omega (arith, k, e)));
+            small = rw (p.small, q.small) (le-leb (magnitude_of_amount (bound_in bounds) p.amount * magnitude_of_amount (bound_in bounds) q.amount) max_amount (omega (arith, k, e)));
             magnitude = e;
           }
 
@@ -121,7 +133,7 @@ module _ (text : List ℕ) (short : Short text) (left at : ℕ) (level : 0 < lef
       unfolding letter_in letter_among row_of plan_row amount_row test_row test_tree test_reads test_is_small latest_of_test
       less_seen h j = record {
         test = less p.amount q.amount;
-        is = rw j.packed.place (whole (child (child (bare_opened plan_form text short left at level h (λ e. omega arith) (of_test TestLetter.G) refl test refl refl (amount ∷ amount ∷ []) refl) p.is) q.is));
+        is = rw j.packed.place (whole (child (child (bare_opened h (λ e. omega arith) (of_test TestLetter.G) refl test refl refl (amount ∷ amount ∷ []) refl) p.is) q.is));
         reads = λ t a z s. rw (p.reads t a z s, q.reads t a z s) refl;
         latest = later (latest_of p.amount) (latest_of q.amount) p.latest q.latest j.packed.months;
         small = rw (p.small, q.small) refl;
@@ -132,7 +144,7 @@ module _ (text : List ℕ) (short : Short text) (left at : ℕ) (level : 0 < lef
       unfolding letter_in letter_among row_of plan_row amount_row test_row test_tree test_reads test_is_small latest_of_test
       equal_seen h j = record {
         test = equal p.amount q.amount;
-        is = rw j.packed.place (whole (child (child (bare_opened plan_form text short left at level h (λ e. omega arith) (of_test TestLetter.E) refl test refl refl (amount ∷ amount ∷ []) refl) p.is) q.is));
+        is = rw j.packed.place (whole (child (child (bare_opened h (λ e. omega arith) (of_test TestLetter.E) refl test refl refl (amount ∷ amount ∷ []) refl) p.is) q.is));
         reads = λ t a z s. rw (p.reads t a z s, q.reads t a z s) refl;
         latest = later (latest_of p.amount) (latest_of q.amount) p.latest q.latest j.packed.months;
         small = rw (p.small, q.small) refl;
@@ -145,10 +157,10 @@ module _ (text : List ℕ) (short : Short text) (left at : ℕ) (level : 0 < lef
     unfolding letter_in letter_among row_of plan_row amount_row test_row amount_tree amount_reads amount_small magnitude_of_amount latest_of
     quotient_seen h d p = record {
       amount = quotient d.by p.amount;
-      is = whole (child (here_opened plan_form text short left at level h (λ e. omega arith) (of_amount AmountLetter.Q) refl amount refl (divisor ∷ []) refl d.is (amount ∷ []) refl) p.is);
+      is = whole (child (here_opened h (λ e. omega arith) (of_amount AmountLetter.Q) refl amount refl (divisor ∷ []) refl d.is (amount ∷ []) refl) p.is);
       reads = p.reads;
       latest = p.latest;
-      small = rw p.small (le_leb (magnitude_of_amount (bound_in bounds) p.amount) max_amount (amount_limit (bound_in bounds) p.amount p.small));
+      small = rw p.small (le-leb (magnitude_of_amount (bound_in bounds) p.amount) max_amount (amount_limit (bound_in bounds) p.amount p.small));
       magnitude = p.magnitude;
     }
 
@@ -160,10 +172,10 @@ module _ (text : List ℕ) (short : Short text) (left at : ℕ) (level : 0 < lef
         let n : months_in r ≡ max (months_in c) (max (months_in x) (months_in y)) = omega (arith, w.packed.months, g.packed.months) in
         record {
           amount = choose u.test p.amount q.amount;
-          is = rw w.packed.place (whole (child (child (child (bare_opened plan_form text short left at level h (λ e. omega arith) (of_amount AmountLetter.I) refl amount refl refl (test ∷ amount ∷ amount ∷ []) refl) u.is) p.is) q.is));
+          is = rw w.packed.place (whole (child (child (child (bare_opened h (λ e. omega arith) (of_amount AmountLetter.I) refl amount refl refl (test ∷ amount ∷ amount ∷ []) refl) u.is) p.is) q.is));
           reads = λ t a z s. rw (u.reads t a z s, p.reads t a z s, q.reads t a z s) refl;
           latest = later (latest_of_test u.test) (later_of (latest_of p.amount) (latest_of q.amount)) u.latest (later (latest_of p.amount) (latest_of q.amount) p.latest q.latest refl) n;
-          small = rw (u.small, p.small, q.small) (le_leb (max (magnitude_of_amount (bound_in bounds) p.amount) (magnitude_of_amount (bound_in bounds) q.amount)) max_amount (omega (arith, k, e)));
+          small = rw (u.small, p.small, q.small) (le-leb (max (magnitude_of_amount (bound_in bounds) p.amount) (magnitude_of_amount (bound_in bounds) q.amount)) max_amount (omega (arith, k, e)));
           magnitude = e;
         }
 
@@ -174,7 +186,7 @@ module _ (text : List ℕ) (short : Short text) (left at : ℕ) (level : 0 < lef
       unfolding letter_in letter_among row_of plan_row amount_row test_row test_tree test_reads test_is_small latest_of_test
       conjunction_seen h j = record {
         test = conjunction p.test q.test;
-        is = rw j.packed.place (whole (child (child (bare_opened plan_form text short left at level h (λ e. omega arith) (of_test TestLetter.Y) refl test refl refl (test ∷ test ∷ []) refl) p.is) q.is));
+        is = rw j.packed.place (whole (child (child (bare_opened h (λ e. omega arith) (of_test TestLetter.Y) refl test refl refl (test ∷ test ∷ []) refl) p.is) q.is));
         reads = λ t a z s. rw (p.reads t a z s, q.reads t a z s) refl;
         latest = later (latest_of_test p.test) (latest_of_test q.test) p.latest q.latest j.packed.months;
         small = rw (p.small, q.small) refl;
@@ -185,7 +197,7 @@ module _ (text : List ℕ) (short : Short text) (left at : ℕ) (level : 0 < lef
       unfolding letter_in letter_among row_of plan_row amount_row test_row test_tree test_reads test_is_small latest_of_test
       disjunction_seen h j = record {
         test = disjunction p.test q.test;
-        is = rw j.packed.place (whole (child (child (bare_opened plan_form text short left at level h (λ e. omega arith) (of_test TestLetter.«V») refl test refl refl (test ∷ test ∷ []) refl) p.is) q.is));
+        is = rw j.packed.place (whole (child (child (bare_opened h (λ e. omega arith) (of_test TestLetter.«V») refl test refl refl (test ∷ test ∷ []) refl) p.is) q.is));
         reads = λ t a z s. rw (p.reads t a z s, q.reads t a z s) refl;
         latest = later (latest_of_test p.test) (latest_of_test q.test) p.latest q.latest j.packed.months;
         small = rw (p.small, q.small) refl;
@@ -196,7 +208,7 @@ module _ (text : List ℕ) (short : Short text) (left at : ℕ) (level : 0 < lef
     unfolding letter_in letter_among row_of plan_row amount_row test_row test_tree test_reads test_is_small latest_of_test
     negation_seen h p = record {
       test = negation p.test;
-      is = whole (child (bare_opened plan_form text short left at level h (λ e. omega arith) (of_test TestLetter.R) refl test refl refl (test ∷ []) refl) p.is);
+      is = whole (child (bare_opened h (λ e. omega arith) (of_test TestLetter.R) refl test refl refl (test ∷ []) refl) p.is);
       reads = p.reads;
       latest = p.latest;
       small = p.small;

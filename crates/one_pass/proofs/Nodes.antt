@@ -161,7 +161,7 @@ kept_whole true n v z e s =
     subst (λ y. y ≡ pos (nat_of y)) u refl
 
 -- a party is not below zero
-pub party_whole : {text : List ℕ} {at next : ℕ} {z : ℤ} → Taken party text at (z ∷ []) next → z ≡ pos (nat_of z)
+party_whole : {text : List ℕ} {at next : ℕ} {z : ℤ} → Taken party text at (z ∷ []) next → z ≡ pos (nat_of z)
 unfolding field_of
 party_whole {text} {at} {next} {z} t = go (fields_from text at) t.is
   where

@@ -1,6 +1,6 @@
 -- Numbers that tell what was read: two of them joined.
 use Prim.Native.Nat.{◌≤◌, ℕ}
-use borrow.Author.Tests.{le_leb, leb-true}
+use borrow.Author.Tests.{le-leb, leb-true}
 use lib.Dec.{leb}
 use mathlib.Core.Bool.{Bool, ◌&&◌, false, true}
 use mathlib.Core.Path.{◌∙◌, ◌≡◌, ap₂, refl, sym}
@@ -28,11 +28,11 @@ both_as b em en = record {
 -- a magnitude that is joined within the limit
 pub as_joined : (op : ℕ → ℕ → ℕ) (x y : ℕ) {m n k l r : ℕ} → Kept r → Both m n x y r → m ≡ joined op k l → k ≡ magnitude_in x → l ≡ magnitude_in y → m ≡ op (magnitude_in x) (magnitude_in y)
 unfolding joined
-as_joined op x y {r = r} kept b em ek el = em ∙ rw (ek, el, le_leb (magnitude_in x) max_amount b.first, le_leb (magnitude_in y) max_amount b.second) (by (leb (op (magnitude_in x) (magnitude_in y)) max_amount) refl)
+as_joined op x y {r = r} kept b em ek el = em ∙ rw (ek, el, le-leb (magnitude_in x) max_amount b.first, le-leb (magnitude_in y) max_amount b.second) (by (leb (op (magnitude_in x) (magnitude_in y)) max_amount) refl)
   where
     by : (t : Bool) → leb (op (magnitude_in x) (magnitude_in y)) max_amount ≡ t → measured t (op (magnitude_in x) (magnitude_in y)) ≡ op (magnitude_in x) (magnitude_in y)
     by true e = refl
     by false e = absurd (omega (arith, kept, b.packed.magnitude, em ∙ ap₂ (joined op) ek el ∙ beyond e))
       where
         beyond : leb (op (magnitude_in x) (magnitude_in y)) max_amount ≡ false → joined op (magnitude_in x) (magnitude_in y) ≡ 9000000000001
-        beyond e = rw (le_leb (magnitude_in x) max_amount b.first, le_leb (magnitude_in y) max_amount b.second, e) refl
+        beyond e = rw (le-leb (magnitude_in x) max_amount b.first, le-leb (magnitude_in y) max_amount b.second, e) refl

@@ -1,7 +1,7 @@
--- A part of a text that the definition reads.
+-- A part of a plan's text that the definition reads.
 use Rattle.std.specs.Prelude.{◌*◌, ◌+◌, ◌≤◌, ℕ, get_or, length, List, ◌∷◌, ◌≡◌}
 use Rattle.fields.specs.Positions.{rest_at}
-use Rattle.language.specs.Text.Letters.{Form, Kind}
+use Rattle.language.specs.Text.Letters.{Kind, PlanLetter, plan_form}
 use Rattle.language.specs.Text.Reader.{Trees, give, read_trees, then_read}
 
 -- a text so short that a byte's place fits, and never has too many nodes
@@ -9,10 +9,10 @@ pub record Short (text : List ℕ) : Type 0 where
   pub short : length text ≤ 1000
 
 -- with `left` levels left, a node of the kind is read from byte `at` up to byte next; `tree` puts it in front of what is then read
-pub record Reads {P : Type 0} (form : Form P) (left : ℕ) (kind : Kind) (text : List ℕ) (at next : ℕ) (tree : Trees P → Trees P) : Type 0 where
+pub record Reads (left : ℕ) (kind : Kind) (text : List ℕ) (at next : ℕ) (tree : Trees PlanLetter → Trees PlanLetter) : Type 0 where
   pub nodes : ℕ
   pub is : (ks : List Kind) (count : ℕ) → 2 * count ≤ at
-      → read_trees form left (kind ∷ ks) (rest_at text at count) ≡ then_read (read_trees form left ks (rest_at text next (count + nodes))) (λ u. give (tree u))
+      → read_trees plan_form left (kind ∷ ks) (rest_at text at count) ≡ then_read (read_trees plan_form left ks (rest_at text next (count + nodes))) (λ u. give (tree u))
   pub onward : at + 2 * nodes ≤ next
   pub within : next ≤ length text + 1
 

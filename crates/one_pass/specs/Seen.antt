@@ -11,7 +11,7 @@ use Rattle.language.specs.Rules.Table.{Table, setting_at}
 use Rattle.language.specs.Rules.Tests.{amount_reads, amount_small, test_reads, test_is_small}
 use Rattle.language.specs.Text.Classes.{a_delay, a_number}
 use Rattle.language.specs.Text.Letters as kinds
-use Rattle.language.specs.Text.Letters.{delay, divisor, plan_form}
+use Rattle.language.specs.Text.Letters.{delay, divisor}
 use Rattle.language.specs.Text.Plans.{plan_trees}
 use Rattle.language.specs.Text.Trees.{Amount, Delay, Plan, Test}
 use Rattle.language.specs.Text.Typed.{amount_tree, test_tree}
@@ -75,7 +75,7 @@ module _ (text : List ℕ) (left at : ℕ) (low high : ℤ) (bounds : List ℤ) 
   -- an amount is read here, it can be read from every month of a node with these offsets, and is within the limit everywhere
   pub record AmountSeen (r : ℕ) : Type 0 where
     pub amount : Amount ℤ
-    pub is : Reads plan_form left kinds.amount text at (behind r) (amount_tree a_number amount)
+    pub is : Reads left kinds.amount text at (behind r) (amount_tree a_number amount)
     pub reads : (t : Table) (a z : ℕ) → Seen low high (length bounds) t a z → amount_reads t a z amount ≡ true
     pub latest : months_in r ≡ latest_month (latest_of amount)
     pub small : amount_small (bound_in bounds) amount ≡ true
@@ -87,7 +87,7 @@ module _ (text : List ℕ) (left at : ℕ) (low high : ℤ) (bounds : List ℤ) 
   -- a test, which has no magnitude
   pub record TestSeen (r : ℕ) : Type 0 where
     pub test : Test ℤ
-    pub is : Reads plan_form left kinds.test text at (behind r) (test_tree a_number test)
+    pub is : Reads left kinds.test text at (behind r) (test_tree a_number test)
     pub reads : (t : Table) (a z : ℕ) → Seen low high (length bounds) t a z → test_reads t a z test ≡ true
     pub latest : months_in r ≡ latest_month (latest_of_test test)
     pub small : test_is_small (bound_in bounds) test ≡ true
@@ -100,7 +100,7 @@ module _ (text : List ℕ) (left at : ℕ) (low high : ℤ) (bounds : List ℤ) 
   module _ (need : ℕ) (days : List ℤ) where
     pub record PlanSeen (r : ℕ) : Type 0 where
       pub plan : Plan Delay
-      pub is : Reads plan_form left kinds.root text at (behind r) (plan_trees plan)
+      pub is : Reads left kinds.root text at (behind r) (plan_trees plan)
       pub set : all_are_set days plan ≡ true
       pub sure : (t : Table) (a z : ℕ) → Seen low high (length bounds) t a z → Sure t a z (bound_in bounds) need high (fill (setting_at days) plan) (r / 1024)
 

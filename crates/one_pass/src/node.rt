@@ -210,7 +210,7 @@ fn last_transfer(text: &&[u8], at: usize, high: Month, need: u64) -> u64
 }
 
 // Whether a letter stands alone here: at the text's end or in front of a comma.
-pub fn alone_at(text: &&[u8], at: usize) -> bool
+fn alone_at(text: &&[u8], at: usize) -> bool
     requires { (at < length text.now.now) × (at ≤ 1024) }
     ensures { result ≡ true → up_to 44 (drop (at + 1) text.now.now) ≡ [] }
 {

@@ -17,7 +17,7 @@ use measures::{first, reads};
 
 // A plan behind a part that was read before it.
 #[cycle(plan_at_plan_behind)]
-pub fn plan_behind(
+fn plan_behind(
     text: &&[u8],
     before: u64,
     left: usize,

@@ -1,9 +1,6 @@
 -- Laws of the calls on payments.
 pub mod Admitted
-pub mod Buffers
 pub mod Placed
-pub mod ReadPayments
-pub mod ReadSteps
 pub mod RestPut
 pub mod RootWaits
 pub mod Shortened

@@ -1,14 +1,15 @@
 -- A text with its first delay one less, in a buffer.
 use Prim.Native.Nat.{◌+◌, ◌-◌, ◌<◌, ◌≤◌, ℕ}
+use borrow.Author.Tests.{le-leb, lt-leb}
 use lib.IntN.{pos}
-use lib.ListN.{drop, get_or, length, length_append, length_drop, length_set, set, take}
-use lib.Seq.{length-take-le}
+use lib.ListN.{drop, get_or, length, length-append, length-drop, length-set, set, take}
+use lib.Seq.{length-take-le, sets, sets-eq}
 use mathlib.Core.List.{List, [], ◌++◌, ◌∷◌}
 use mathlib.Core.Path.{◌∙◌, ◌≡◌, ap, refl}
 use native.Mathlib.Omega.{arith}
 use Rattle.integers.specs.declared.Pence.{Pence}
+use Rattle.language.specs.Calls.{into_buffer}
 use Rattle.language.specs.Text.Number.{print_nat}
-use Rattle.payments.proofs.Buffers.{all_put, too_short}
 use Rattle.payments.specs.Answers.{stepping_answer}
 use Rattle.payments.specs.Waits.{sooner, wait_call}
 use Rattle.payments.specs.declared.Stepping.TheVariants.{Refused, Stepped}
@@ -16,6 +17,11 @@ use Rattle.text.specs.declared.Refusal.TheVariants.{NoRoom}
 use Rattle.writer.proofs.Decimal.{digits_most}
 use Rattle.writer.proofs.Puts.{kept, pair, said, then}
 use Rattle.writer.specs.Put.{Put}
+
+in-front : (text buffer : List ℕ) → length text ≤ length buffer → sets buffer 0 text ≡ text ++ drop (length text) buffer
+in-front text buffer h =
+    let e : 0 + length text ≡ length text = omega arith in
+    sets-eq text buffer 0 (omega arith) ∙ ap (λ (k : ℕ). text ++ drop k buffer) e
 
 first_two : (text : List ℕ) → 2 ≤ length text → get_or text 0 0 ∷ get_or text 1 0 ∷ [] ≡ take 2 text
 first_two [] h = absurd (omega arith)
@@ -33,15 +39,15 @@ module _ (text : List ℕ) (d : ℕ) (long : 2 + length (print_nat d) ≤ length
         arith,
         en,
         em,
-        length_append (take 2 text) (print_nat (d - 1) ++ drop (2 + length (print_nat d)) text),
-        length_append (print_nat (d - 1)) (drop (2 + length (print_nat d)) text),
+        length-append (take 2 text) (print_nat (d - 1) ++ drop (2 + length (print_nat d)) text),
+        length-append (print_nat (d - 1)) (drop (2 + length (print_nat d)) text),
         length-take-le 2 text (omega arith),
-        length_drop (2 + length (print_nat d)) text,
+        length-drop (2 + length (print_nat d)) text,
       )
 
   pub no_room : length buffer < 2 + m + (length text - (2 + n)) → (buffer ≡ (wait_call d text buffer).buffer) × (stepping_answer (Refused NoRoom) ≡ (wait_call d text buffer).answer)
-  unfolding wait_call
-  no_room h = too_short (sooner d text) (pos 0) buffer (omega (arith, h, sooner_length))
+  unfolding wait_call into_buffer stepping_answer
+  no_room h = let e = lt-leb (length (sooner d text)) (length buffer) (omega (arith, h, sooner_length)) in (rw e refl, rw e refl)
 
   module _ (room : 2 + m + (length text - (2 + n)) ≤ length buffer) where
     -- with the first two bytes
@@ -49,7 +55,7 @@ module _ (text : List ℕ) (d : ℕ) (long : 2 + length (print_nat d) ≤ length
     begun = set (set buffer 0 (get_or text 0 0)) 1 (get_or text 1 0)
 
     begun_size : length begun ≡ length buffer
-    begun_size = length_set (set buffer 0 (get_or text 0 0)) 1 (get_or text 1 0) ∙ length_set buffer 0 (get_or text 0 0)
+    begun_size = length-set (set buffer 0 (get_or text 0 0)) 1 (get_or text 1 0) ∙ length-set buffer 0 (get_or text 0 0)
 
     pub digits_room : 2 + length (print_nat (d - 1)) ≤ length begun
     digits_room = omega (arith, room, em, begun_size)
@@ -62,10 +68,14 @@ module _ (text : List ℕ) (d : ℕ) (long : 2 + length (print_nat d) ≤ length
         pub same_size : length out ≡ length buffer
         same_size = kept q ∙ kept p ∙ begun_size
 
-        all_written : Put buffer out 0 end (sooner d text)
+        all_put : Put buffer out 0 end (sooner d text)
         unfolding sooner
-        all_written = then (said (first_two text (omega (arith, long))) (pair buffer 0 (get_or text 0 0) (get_or text 1 0))) (then p (said (ap (λ k. drop (2 + k) text) en) q))
+        all_put = then (said (first_two text (omega (arith, long))) (pair buffer 0 (get_or text 0 0) (get_or text 1 0))) (then p (said (ap (λ k. drop (2 + k) text) en) q))
 
         pub whole : (v : Pence) → v.0 ≡ pos 0 → (out ≡ (wait_call d text buffer).buffer) × (stepping_answer (Stepped v end) ≡ (wait_call d text buffer).answer)
-        unfolding wait_call
-        whole v ev = all_put (sooner d text) (pos 0) buffer (omega (arith, room, sooner_length)) all_written v ev
+        unfolding wait_call into_buffer stepping_answer
+        whole v ev =
+            let r : length (sooner d text) ≤ length buffer = omega (arith, room, sooner_length) in
+            let e = le-leb (length (sooner d text)) (length buffer) r in
+            let s : end ≡ length (sooner d text) = omega (arith, all_put.ends) in
+            (rw e (all_put.is ∙ in-front (sooner d text) buffer r), rw (e, s, ev) refl)

@@ -1,7 +1,7 @@
 -- A plan whose root goes on waiting: what it pays today, and its text for tomorrow.
 use Prim.Native.Nat.{◌+◌, ◌-◌, ◌<◌, ◌≤◌, suc, zero, ℕ}
 use lib.IntN.{pos, ℤ}
-use lib.ListN.{length, length_append}
+use lib.ListN.{length, length-append}
 use lib.Seq.{drop_at}
 use mathlib.Core.Bool.{cond, false}
 use mathlib.Core.List.{List, [], ◌++◌, ◌∷◌}
@@ -40,7 +40,7 @@ unfolding sooner
 sooner_text letter d r = ap (λ b. letter ∷ 44 ∷ (print_nat (d - 1) ++ b)) (drop_at (letter ∷ 44 ∷ print_nat d) r (2 + length (print_nat d)) (omega arith))
 
 long_enough : (letter d : ℕ) (r : List ℕ) → 2 + length (print_nat d) ≤ length (waiting letter d r)
-long_enough letter d r = omega (arith, length_append (print_nat d) r)
+long_enough letter d r = omega (arith, length-append (print_nat d) r)
 
 -- ---- the step
 

@@ -1,7 +1,7 @@
 -- What a call on payments answers, with document 01's numbers.
-use Rattle.std.specs.Prelude.{ℕ, nat_abs, ℤ, drop, take, Bool, ◌&&◌, List}
+use Rattle.std.specs.Prelude.{nat_abs, ℤ, Bool, ◌&&◌}
 use Rattle.language.specs.Answer.{Answer, ◌>>=◌, got, refused}
-use Rattle.language.specs.Calls.{Given, Outcome, Writes, Wrote, accept_plan, into_buffer, lookup_of, pair_ok, sign_of}
+use Rattle.language.specs.Calls.{Given, Writes, Wrote, accept_plan, lookup_of, pair_ok, sign_of}
 use Rattle.language.specs.Payments.Pays.{pays}
 use Rattle.language.specs.Payments.Step.{step}
 use Rattle.language.specs.Rules.Settings.{closed}
@@ -37,7 +37,3 @@ stepping_answer (stepping.Refused k) = refused (number_of k)
 -- what the step of a plan that was read pays today, and its text
 abbrev pub stepped_by : Given → ℤ → ℤ → ℤ → Plan Delay → Answer (Writes ℤ)
 stepped_by g today p q plan = accept_plan g today (pair_ok p q) plan >>= λ x. got (record { value = pays (lookup_of g.table) (sign_of p q) x (nat_abs today) (nat_abs today); text = print_plan (closed (step (lookup_of g.table) (nat_abs today) x)) })
-
--- the pence, and the bytes that were found up to `next` but for the first, into a buffer
-abbrev pub found_call : List ℕ → ℕ → ℤ → List ℕ → Outcome (Wrote ℤ)
-found_call found next pence buffer = into_buffer buffer (got (record { value = pence; text = drop 1 (take next found) }))

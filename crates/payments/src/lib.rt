@@ -1,5 +1,5 @@
 // What a plan pays a pair in a month, and the month step.
-ghost use Rattle.std.specs.Prelude.{◌≡◌, ◌&&◌, true, ◌<◌, ◌≤◌, pos, get_or, length};
+ghost use Rattle.std.specs.Prelude.{◌≡◌, ◌&&◌, ◌<◌, ◌≤◌};
 ghost use Rattle.amounts.specs.Fine.{MonthIn};
 ghost use Rattle.amounts.specs.Flat.{flat};
 ghost use Rattle.copies.specs.Appended.{Appended};
@@ -8,7 +8,6 @@ ghost use Rattle.language.specs.Calls.{into_buffer, lookup_of, pair_ok, payment_
 ghost use Rattle.language.specs.Payments.Pays.{pays};
 ghost use Rattle.language.specs.Payments.Step.{step};
 ghost use Rattle.language.specs.Rules.Settings.{closed};
-ghost use Rattle.language.specs.Rules.Table.{are_settings};
 ghost use Rattle.language.specs.Text.Letters.{plan_form};
 ghost use Rattle.language.specs.Text.Number.{between};
 ghost use Rattle.language.specs.Text.Plans.{plan_trees, print_plan};
@@ -17,19 +16,16 @@ ghost use Rattle.language.specs.Text.Trees.{Delay, Plan};
 ghost use Rattle.nodes.specs.Found.{plan_at};
 ghost use Rattle.nodes.specs.Stands.{PlanStands};
 ghost use Rattle.nodes.specs.Table.{nat_of};
-ghost use Rattle.one_pass.specs.Reads.{Short};
-ghost use Rattle.payments.specs.Answers.{asked_ok, found_call, paid_by, paying_answer, stepped_by, stepping_answer};
+ghost use Rattle.payments.specs.Answers.{asked_ok, paid_by, paying_answer, stepped_by, stepping_answer};
 ghost use Rattle.pays.specs.FinePlan.{FinePlan};
 ghost use Rattle.pays.specs.Parties.{PairIn};
 ghost use Rattle.rules.specs.Answers.{given_of};
-ghost use Rattle.rules.specs.Measured.{span_ok};
 ghost use Rattle.rules.specs.Standing.{Standing, Stands};
 ghost use Rattle.steps.specs.Ready.{Ready};
-ghost use Rattle.tables.specs.Lookup.{Kept, read_table};
+ghost use Rattle.tables.specs.Lookup.{read_table};
 ghost use Rattle.text.specs.Room.{Roomy, letters_in};
 
 use integers::{Month, Pence};
-use one_pass::packed;
 use pays::Pair;
 use rules::Checking;
 use steps::Today;
@@ -39,7 +35,7 @@ use writer::{Written, digits};
 
 mod waits;
 
-#[derive(Drop)]
+#[derive(Clone, Copy)]
 pub enum Paying {
     Pays(Pence),
     Refused(Refusal),
@@ -273,83 +269,6 @@ fn payment_sized(
     )
 }
 
-// What a short text pays, found as it is read. The whole table is looked at where its plan keeps every rule; where that is not sure, the
-// text is read into a table of nodes.
-fn read_payment(
-    text: &[u8],
-    days: &[i64],
-    span: Span,
-    factors: &[i64],
-    bounds: &[i64],
-    values: &[i64],
-    today: Month,
-    pair: Pair,
-    month: Month,
-) -> Paying
-    requires { Short text.now × (are_settings days.now ≡ true) × (span_ok span.h span.f ≡ true) × (between (pos 0) span.f today.0 ≡ true)
-        × (pair_ok pair.p pair.q && between today.0 span.f month.0 ≡ true) × Kept span.h span.f bounds.now values.now }
-    ensures { paying_answer result ≡ payment_call text.now
-        (given_of days.now span.h span.f factors.now bounds.now values.now) today.0 pair.p pair.q month.0 }
-{
-    let low = measures::reads::nearer(Month(0 - span.h), today);
-    let high = measures::reads::nearer(Month(span.f), today);
-    let r = pay_read::plan::pay_at(
-        &text,
-        0,
-        32,
-        low,
-        high,
-        0,
-        &bounds,
-        &days,
-        &values,
-        Month(span.h),
-        Month(span.f),
-        today.0 as u64,
-        month.0 as u64,
-        pair,
-    );
-    if packed::is_kept(r.seen) & (packed::place(r.seen) == text.len() + 1) {
-        if tables::table_ok(span, factors, bounds, values) {
-            let pence = r.pence;
-            return Paying::Pays(pence);
-        }
-    }
-    payment_sized(
-        text, days, span, factors, bounds, values, today, pair, month,
-    )
-}
-
-// A short text as it is read, where the months, settings, parties and counts keep the rules; any other by the number of its letters.
-fn payment_any(
-    text: &[u8],
-    days: &[i64],
-    span: Span,
-    factors: &[i64],
-    bounds: &[i64],
-    values: &[i64],
-    today: Month,
-    pair: Pair,
-    month: Month,
-) -> Paying
-    ensures { paying_answer result ≡ payment_call text.now
-        (given_of days.now span.h span.f factors.now bounds.now values.now) today.0 pair.p pair.q month.0 }
-{
-    if text.len() <= 1000 {
-        let months = tables::span_ok(span) & tables::month_ok(span.f, today.0);
-        if months & tables::settings_ok(days) & asked_of(pair, today.0, span.f, month.0) {
-            if counts_ok(span, bounds, values) {
-                return read_payment(
-                    text, days, span, factors, bounds, values, today, pair, month,
-                );
-            }
-        }
-    }
-    payment_sized(
-        text, days, span, factors, bounds, values, today, pair, month,
-    )
-}
-
 // The pence that p pays q in a month from today to f, the plan's root in month today; or the refusal.
 pub fn payment(
     text: &[u8],
@@ -367,7 +286,7 @@ pub fn payment(
     ensures { paying_answer result ≡ payment_call text.now
         (given_of days.now h f factors.now bounds.now values.now) today p q month }
 {
-    payment_any(
+    payment_sized(
         text,
         days,
         Span { h: h, f: f },
@@ -380,7 +299,7 @@ pub fn payment(
     )
 }
 
-#[derive(Drop)]
+#[derive(Clone, Copy)]
 pub enum Stepping {
     Stepped(Pence, usize),
     Refused(Refusal),
@@ -635,140 +554,6 @@ fn step_sized(
     long_step(text, days, span, factors, bounds, values, today, pair, out)
 }
 
-// Whether a table of months that keep the rules has the labels and values for them.
-fn counts_ok(span: Span, bounds: &[i64], values: &[i64]) -> bool
-    requires { span_ok span.h span.f ≡ true }
-    ensures { result ≡ true → Kept span.h span.f bounds.now values.now }
-{
-    if bounds.len() <= 8 {
-        let n = span.h as usize + span.f as usize + 1;
-        return values.len() == bounds.len() * n;
-    }
-    false
-}
-
-// What was found, without the comma in front of it, into `out`; or no byte of it where it does not fit.
-fn put_found(found: &[u8], next: usize, pence: Pence, out: &mut [u8]) -> Stepping
-    requires { (0 < next) × (next ≤ length found.now) }
-    ensures { (out.new ≡ (found_call found.now next pence.0 out.old).buffer)
-        × (stepping_answer result ≡ (found_call found.now next pence.0 out.old).answer) }
-{
-    if out.len() < next - 1 {
-        return Stepping::Refused(Refusal::NoRoom);
-    }
-    let count = waits::put_rest(&found[0..next], 1, out, 0);
-    Stepping::Stepped(pence, count)
-}
-
-// A short text stepped as it is read. The whole table is looked at where its plan keeps every rule; where that is not sure, the text
-// is read into a table of nodes.
-fn read_step(
-    text: &[u8],
-    days: &[i64],
-    span: Span,
-    factors: &[i64],
-    bounds: &[i64],
-    values: &[i64],
-    today: Month,
-    pair: Pair,
-    out: &mut [u8],
-) -> Stepping
-    requires { Short text.now × (are_settings days.now ≡ true) × (span_ok span.h span.f ≡ true) × (between (pos 0) span.f today.0 ≡ true)
-        × (pair_ok pair.p pair.q ≡ true) × Kept span.h span.f bounds.now values.now }
-    ensures { (out.new ≡ (step_call text.now
-        (given_of days.now span.h span.f factors.now bounds.now values.now) today.0 pair.p pair.q out.old).buffer)
-        × (stepping_answer result ≡ (step_call text.now
-        (given_of days.now span.h span.f factors.now bounds.now values.now) today.0 pair.p pair.q out.old).answer) }
-{
-    let mut found = [0u8; 1536];
-    let low = measures::reads::nearer(Month(0 - span.h), today);
-    let high = measures::reads::nearer(Month(span.f), today);
-    let r = step_read::plan::step_at(
-        &text,
-        0,
-        32,
-        low,
-        high,
-        0,
-        &bounds,
-        &days,
-        &values,
-        Month(span.h),
-        Month(span.f),
-        today,
-        pair,
-        &mut found,
-        0,
-    );
-    if packed::is_kept(r.seen) & (packed::place(r.seen) == text.len() + 1) {
-        if tables::table_ok(span, factors, bounds, values) {
-            return put_found(&found, r.next, r.pence, out);
-        }
-    }
-    step_sized(text, days, span, factors, bounds, values, today, pair, out)
-}
-
-// A short text as it is read, where the months, settings, parties and counts keep the rules; any other by the number of its letters.
-fn step_any(
-    text: &[u8],
-    days: &[i64],
-    span: Span,
-    factors: &[i64],
-    bounds: &[i64],
-    values: &[i64],
-    today: Month,
-    pair: Pair,
-    out: &mut [u8],
-) -> Stepping
-    ensures { (out.new ≡ (step_call text.now
-        (given_of days.now span.h span.f factors.now bounds.now values.now) today.0 pair.p pair.q out.old).buffer)
-        × (stepping_answer result ≡ (step_call text.now
-        (given_of days.now span.h span.f factors.now bounds.now values.now) today.0 pair.p pair.q out.old).answer) }
-{
-    if text.len() <= 1000 {
-        let months = tables::span_ok(span) & tables::month_ok(span.f, today.0);
-        if months & tables::settings_ok(days) & parties_ok(pair) {
-            if counts_ok(span, bounds, values) {
-                return read_step(text, days, span, factors, bounds, values, today, pair, out);
-            }
-        }
-    }
-    step_sized(text, days, span, factors, bounds, values, today, pair, out)
-}
-
-// Whether the root is an `S` whose amount is no number: then the walk over the text would not be sure.
-fn amount_due(text: &[u8]) -> bool
-    ensures { result ≡ true → get_or text.now 0 0 ≡ 83 }
-{
-    if text.len() < 3 {
-        return false;
-    }
-    (text[0] == b'S') & (text[2] != b'N')
-}
-
-// As it is read, or with a table at once.
-fn step_by(
-    text: &[u8],
-    days: &[i64],
-    span: Span,
-    factors: &[i64],
-    bounds: &[i64],
-    values: &[i64],
-    today: Month,
-    pair: Pair,
-    out: &mut [u8],
-) -> Stepping
-    ensures { (out.new ≡ (step_call text.now
-        (given_of days.now span.h span.f factors.now bounds.now values.now) today.0 pair.p pair.q out.old).buffer)
-        × (stepping_answer result ≡ (step_call text.now
-        (given_of days.now span.h span.f factors.now bounds.now values.now) today.0 pair.p pair.q out.old).answer) }
-{
-    if amount_due(text) {
-        return step_sized(text, days, span, factors, bounds, values, today, pair, out);
-    }
-    step_any(text, days, span, factors, bounds, values, today, pair, out)
-}
-
 // The pence that p pays q today, and the plan for tomorrow from the first byte of `out` on; a refusal leaves every byte as it was.
 // Demand 3 of document 01 is this contract with the theorem `guarantee` (language, proofs/Guarantee): whatever list of calls that
 // answer as `stepCall` does, schedule, value and roll-forward of the accepted plan agree.
@@ -791,7 +576,7 @@ pub fn step(
         (given_of days.now h f factors.now bounds.now values.now) today p q out.old).answer) }
 {
     let parties = Pair { p: p, q: q };
-    step_by(
+    step_sized(
         text,
         days,
         Span { h: h, f: f },

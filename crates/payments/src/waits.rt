@@ -50,7 +50,7 @@ pub fn text_waits(text: &[u8], nodes: &[i64], values: &[i64], today: Month) -> b
 }
 
 // Writes the text from byte `from` on.
-pub fn put_rest(text: &[u8], from: usize, out: &mut [u8], at: usize) -> usize
+fn put_rest(text: &[u8], from: usize, out: &mut [u8], at: usize) -> usize
     requires { (from ≤ length text.now) × (at + (length text.now - from) ≤ length out.old) }
     ensures { Put out.old out.new at result (drop from text.now) }
 {

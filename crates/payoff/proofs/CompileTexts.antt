@@ -1,7 +1,7 @@
 -- The call compile: a text that is read is compiled in its table, and the payoff's rows are written.
 use Prim.Native.Nat.{◌*◌, ◌≤◌, ℕ}
 use lib.IntN.{pos, ℤ}
-use lib.ListN.{drop, length, length_append, take-append-drop}
+use lib.ListN.{drop, length, length-append, take-append-drop}
 use mathlib.Core.List.{List, ◌++◌}
 use mathlib.Core.Path.{◌∙◌, ◌≡◌, ap, refl, sym}
 use native.Mathlib.Nat.{zero-add}
@@ -49,7 +49,7 @@ module _ (text : List ℕ) where
 
     -- the rows that were read lie in the table
     pub in_table : 5 * n ≤ length nodes
-    in_table = omega (arith, ap length whole, length_append (rows plan_form (plan_trees was.plan end)) (drop (5 * n) nodes), rows_length plan_form (plan_trees was.plan end), counted)
+    in_table = omega (arith, ap length whole, length-append (rows plan_form (plan_trees was.plan end)) (drop (5 * n) nodes), rows_length plan_form (plan_trees was.plan end), counted)
 
     -- the plan can be compiled from its first row on
     pub ready : Ready (pos 0) (pos 0) nodes 0 n 32

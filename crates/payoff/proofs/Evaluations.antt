@@ -1,7 +1,7 @@
 -- Evaluating a payoff that stands in the table, step by step in document 01's order.
 use Prim.Native.Nat.{◌*◌, ◌≤◌, ℕ}
 use lib.IntN.{ℤ}
-use lib.ListN.{drop, length, length_append, take-append-drop}
+use lib.ListN.{drop, length, length-append, take-append-drop}
 use mathlib.Core.Bool.{◌&&◌, false, true}
 use mathlib.Core.List.{List, ◌++◌}
 use mathlib.Core.Path.{◌∙◌, ◌≡◌, ap, ap₂, refl, subst, sym}
@@ -53,7 +53,7 @@ module _ {nodes : List ℤ} {count : ℕ} {x : Written} (s : Standing nodes coun
   whole = sym (take-append-drop (5 * count) nodes) ∙ ap (λ y. y ++ drop (5 * count) nodes) s.lies
 
   pub standing_rows : 5 * count ≤ length nodes
-  standing_rows = omega (arith, ap length whole, length_append (rows payoff_form (payoff_trees x end)) (drop (5 * count) nodes), rows_length payoff_form (payoff_trees x end), s.counted)
+  standing_rows = omega (arith, ap length whole, length-append (rows payoff_form (payoff_trees x end)) (drop (5 * count) nodes), rows_length payoff_form (payoff_trees x end), s.counted)
 
   pub standing_in : all_rows row_in count nodes ≡ true
   standing_in = ap₂ (all_rows row_in) s.counted whole ∙ settled.rows_in nodes x (drop (5 * count) nodes) s.formed.fields

@@ -6,6 +6,5 @@ pub mod Evaluations
 pub mod FilledBlocks
 pub mod FilledRanges
 pub mod Opens
-pub mod ShortTexts
 pub mod TableFacts
 pub mod Texts

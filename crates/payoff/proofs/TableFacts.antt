@@ -8,11 +8,8 @@ use lib.Signed.{non_neg}
 use mathlib.Core.Bool.{◌&&◌, false≢true, true}
 use mathlib.Core.List.{List}
 use mathlib.Core.Path.{◌≡◌, refl}
-use mir.Syntax.{w64}
-use mir.Val.{SFits}
 use native.Mathlib.Omega.{arith}
 use Rattle.checked.specs.Ranges.{Readable}
-use Rattle.integers.proofs.Laws.{sfits64}
 use Rattle.language.proofs.Rules.Tables.{bound_small, factor_small, rules_of, value_bounded}
 use Rattle.language.proofs.Truth.{and_e}
 use Rattle.language.specs.Calls.{pair_ok}
@@ -57,8 +54,6 @@ module _ (h f : ℤ) (factors bounds values : List ℤ) (ok : is_table (table_of
           count = eqb-true (length values) (length bounds * span t) counts.values_count;
         };
         small = λ l m. omega (arith, value_bounded t (rules_of t ok) l m, bound_small t (rules_of t ok) l);
-        factors = factors;
-        ok = ok;
       }
 
   pub table_pays : Payable f factors
@@ -77,13 +72,6 @@ month_known f (negsuc n) e = absurd (false≢true e)
 party_known : (p : ℤ) → is_a_party p ≡ true → 0 < nat_of p
 party_known (pos n) e = omega (arith, leb-true 1 n (and_e (leb 1 n) (leb n max_party) e).0)
 party_known (negsuc n) e = absurd (false≢true e)
-
-party_fits : (p : ℤ) → is_a_party p ≡ true → SFits w64 p
-party_fits (pos n) e = sfits64 max_party (leb-true n max_party (and_e (leb 1 n) (leb n max_party) e).1) tt
-party_fits (negsuc n) e = absurd (false≢true e)
-
-pub pair_fits : (p q : ℤ) → pair_ok p q ≡ true → SFits w64 p × SFits w64 q
-pair_fits p q e = let b = and_e (is_a_party p) (is_a_party q) e in (party_fits p b.0, party_fits q b.1)
 
 pub pair_known : (p q : ℤ) → pair_ok p q ≡ true → PairIn p q
 pair_known p q e = let b = and_e (is_a_party p) (is_a_party q) e in record { first = party_known p b.0; second = party_known q b.1 }

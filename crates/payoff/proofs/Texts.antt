@@ -1,6 +1,6 @@
 -- The call cut: a text that is read is a payoff's printed text, so its bytes are cut as they stand.
 use Prim.Native.Nat.{◌<◌, ◌≤◌, ℕ}
-use borrow.Author.Tests.{le_leb, lt-leb}
+use borrow.Author.Tests.{le-leb, lt-leb}
 use lib.IntN.{ℤ}
 use lib.ListN.{length, length-map}
 use mathlib.Core.List.{List, map}
@@ -36,7 +36,7 @@ module _ (text : List ℕ) where
         (out ≡ (cut_call text buffer).buffer) × (writing_answer (Bytes (length text)) ≡ (cut_call text buffer).answer)
     unfolding cut_call into_buffer writing_answer
     cut_is buffer h out e =
-        let room = le_leb (length (map byte_of_cut text)) (length buffer) (omega (arith, length-map text byte_of_cut)) in
+        let room = le-leb (length (map byte_of_cut text)) (length buffer) (omega (arith, length-map text byte_of_cut)) in
         (rw (is_cut, room) e, rw (is_cut, room, length-map text byte_of_cut) refl)
 
     pub no_room : (buffer : List ℕ) → length buffer < length text → (buffer ≡ (cut_call text buffer).buffer) × (writing_answer (Refused NoRoom) ≡ (cut_call text buffer).answer)

@@ -1,16 +1,13 @@
 // Payoffs: compiling, cutting and evaluating.
-ghost use Rattle.std.specs.Prelude.{◌≡◌, ◌<◌, ◌≤◌, length, ◌&&◌, false, true, map, T, pos};
+ghost use Rattle.std.specs.Prelude.{◌≡◌, ◌<◌, ◌≤◌, length, ◌&&◌, false, map, T, pos};
 ghost use Rattle.std.specs.Int.Signed.{non_neg};
 ghost use Rattle.checked.specs.Ranges.{Readable};
-ghost use Rattle.language.specs.Answer.{got};
 ghost use Rattle.language.specs.Calls.{compile_call, cut_call, evaluate_call, over, pair_ok};
-ghost use Rattle.language.specs.Rules.Table.{are_settings, is_table};
 ghost use Rattle.language.specs.Text.Number.{between};
 ghost use Rattle.nodes.specs.Blocks.{PayoffBlocks};
 ghost use Rattle.nodes.specs.Found.{offset_of, payoff_at};
 ghost use Rattle.nodes.specs.Stands.{PayoffStands};
 ghost use Rattle.nodes.specs.Table.{nat_of};
-ghost use Rattle.one_pass.specs.Reads.{Short};
 ghost use Rattle.payoff.specs.Answers.{writing_answer};
 ghost use Rattle.payoff.specs.Compiling.{PlanRows};
 ghost use Rattle.payoff.specs.Cut.{byte_of_cut};
@@ -20,7 +17,6 @@ ghost use Rattle.settling.specs.Settle.{Settled};
 ghost use Rattle.tables.specs.Given.{table_of};
 ghost use Rattle.text.specs.Opens.{opens};
 ghost use Rattle.text.specs.Room.{Roomy, letters_in};
-ghost use Rattle.worth_read.specs.Packed.{Kept, number_in};
 ghost use Rattle.worths.specs.Answers.{worth_answer};
 ghost use Rattle.worths.specs.Checked.{worth_in};
 ghost use Rattle.worths.specs.Ranges.{FieldsIn, Payable};
@@ -31,12 +27,11 @@ use pays::Pair;
 use tables::Span;
 use tables::fill::Filling;
 use text::{Reading, Refusal};
-use worth_read::packed;
 use worths::answers::Worth;
 use worths::{coded, payoffs};
 use writer::Written;
 
-#[derive(Drop)]
+#[derive(Clone, Copy)]
 pub enum Writing {
     Bytes(usize),
     Refused(Refusal),
@@ -182,7 +177,7 @@ pub fn compile(text: &[u8], out: &mut [u8]) -> Writing
 
 // ---- evaluating
 
-#[derive(Drop)]
+#[derive(Clone, Copy)]
 pub enum Evaluating {
     Value(Millionths),
     Refused(Refusal),
@@ -234,8 +229,7 @@ fn worth_of(
     ))
 }
 
-// A payoff that was read: 9, 12, 8, then its value; `fine` says whether the lent table keeps the rules. Its open settings, where it uses any, are
-// filled in the table of nodes.
+// A payoff that was read: 9, 12, 8, then its value. Its open settings, where it uses any, are filled in the table.
 pub fn evaluate_nodes(
     nodes: &mut [i64],
     count: usize,
@@ -247,14 +241,13 @@ pub fn evaluate_nodes(
     month: Month,
     pair: Pair,
     used: bool,
-    fine: bool,
 ) -> Evaluating
-    requires { Stands nodes.old count × (used ≡ false → Settled count nodes.old) × (fine ≡ is_table (table_of span.h span.f factors.now bounds.now values.now)) }
+    requires { Stands nodes.old count × (used ≡ false → Settled count nodes.old) }
     ensures { EvaluateIs
         (given_of days.now span.h span.f factors.now bounds.now values.now)
         pair.p pair.q month.0 count nodes.old result }
 {
-    if fine {
+    if tables::table_ok(span, factors, bounds, values) {
         if caller_ok(span, month, pair) {
             if tables::settings_ok(days) {
                 let filling = settling::settle_open(nodes, count, days, used);
@@ -296,9 +289,8 @@ fn evaluate_in(
     values: &[i64],
     month: Month,
     pair: Pair,
-    fine: bool,
 ) -> Evaluating
-    requires { Roomy text.now nodes.old × (fine ≡ is_table (table_of span.h span.f factors.now bounds.now values.now)) }
+    requires { Roomy text.now nodes.old }
     ensures { evaluating_answer result ≡ evaluate_call text.now
         (given_of days.now span.h span.f factors.now bounds.now values.now) pair.p pair.q month.0 }
 {
@@ -315,7 +307,6 @@ fn evaluate_in(
             month,
             pair,
             may_use(text, days),
-            fine,
         ),
         Reading::Refused(refusal) => Evaluating::Refused(refusal),
     }
@@ -331,15 +322,14 @@ fn tiny_evaluate(
     values: &[i64],
     month: Month,
     pair: Pair,
-    fine: bool,
 ) -> Evaluating
-    requires { (letters_in text.now < 24) × (fine ≡ is_table (table_of span.h span.f factors.now bounds.now values.now)) }
+    requires { letters_in text.now < 24 }
     ensures { evaluating_answer result ≡ evaluate_call text.now
         (given_of days.now span.h span.f factors.now bounds.now values.now) pair.p pair.q month.0 }
 {
     let mut nodes = [0i64; 120];
     evaluate_in(
-        text, &mut nodes, days, span, factors, bounds, values, month, pair, fine,
+        text, &mut nodes, days, span, factors, bounds, values, month, pair,
     )
 }
 
@@ -352,15 +342,14 @@ fn small_evaluate(
     values: &[i64],
     month: Month,
     pair: Pair,
-    fine: bool,
 ) -> Evaluating
-    requires { (letters_in text.now < 48) × (fine ≡ is_table (table_of span.h span.f factors.now bounds.now values.now)) }
+    requires { letters_in text.now < 48 }
     ensures { evaluating_answer result ≡ evaluate_call text.now
         (given_of days.now span.h span.f factors.now bounds.now values.now) pair.p pair.q month.0 }
 {
     let mut nodes = [0i64; 240];
     evaluate_in(
-        text, &mut nodes, days, span, factors, bounds, values, month, pair, fine,
+        text, &mut nodes, days, span, factors, bounds, values, month, pair,
     )
 }
 
@@ -373,15 +362,14 @@ fn brief_evaluate(
     values: &[i64],
     month: Month,
     pair: Pair,
-    fine: bool,
 ) -> Evaluating
-    requires { (letters_in text.now < 96) × (fine ≡ is_table (table_of span.h span.f factors.now bounds.now values.now)) }
+    requires { letters_in text.now < 96 }
     ensures { evaluating_answer result ≡ evaluate_call text.now
         (given_of days.now span.h span.f factors.now bounds.now values.now) pair.p pair.q month.0 }
 {
     let mut nodes = [0i64; 480];
     evaluate_in(
-        text, &mut nodes, days, span, factors, bounds, values, month, pair, fine,
+        text, &mut nodes, days, span, factors, bounds, values, month, pair,
     )
 }
 
@@ -394,15 +382,14 @@ fn short_evaluate(
     values: &[i64],
     month: Month,
     pair: Pair,
-    fine: bool,
 ) -> Evaluating
-    requires { (letters_in text.now < 192) × (fine ≡ is_table (table_of span.h span.f factors.now bounds.now values.now)) }
+    requires { letters_in text.now < 192 }
     ensures { evaluating_answer result ≡ evaluate_call text.now
         (given_of days.now span.h span.f factors.now bounds.now values.now) pair.p pair.q month.0 }
 {
     let mut nodes = [0i64; 960];
     evaluate_in(
-        text, &mut nodes, days, span, factors, bounds, values, month, pair, fine,
+        text, &mut nodes, days, span, factors, bounds, values, month, pair,
     )
 }
 
@@ -415,15 +402,13 @@ fn long_evaluate(
     values: &[i64],
     month: Month,
     pair: Pair,
-    fine: bool,
 ) -> Evaluating
-    requires { fine ≡ is_table (table_of span.h span.f factors.now bounds.now values.now) }
     ensures { evaluating_answer result ≡ evaluate_call text.now
         (given_of days.now span.h span.f factors.now bounds.now values.now) pair.p pair.q month.0 }
 {
     let mut nodes = [0i64; 2560];
     evaluate_in(
-        text, &mut nodes, days, span, factors, bounds, values, month, pair, fine,
+        text, &mut nodes, days, span, factors, bounds, values, month, pair,
     )
 }
 
@@ -437,101 +422,24 @@ fn evaluate_sized(
     values: &[i64],
     month: Month,
     pair: Pair,
-    fine: bool,
 ) -> Evaluating
-    requires { fine ≡ is_table (table_of span.h span.f factors.now bounds.now values.now) }
     ensures { evaluating_answer result ≡ evaluate_call text.now
         (given_of days.now span.h span.f factors.now bounds.now values.now) pair.p pair.q month.0 }
 {
     let letters = text::room::letters_at_most(text);
     if letters < 24 {
-        return tiny_evaluate(text, days, span, factors, bounds, values, month, pair, fine);
+        return tiny_evaluate(text, days, span, factors, bounds, values, month, pair);
     }
     if letters < 48 {
-        return small_evaluate(text, days, span, factors, bounds, values, month, pair, fine);
+        return small_evaluate(text, days, span, factors, bounds, values, month, pair);
     }
     if letters < 96 {
-        return brief_evaluate(text, days, span, factors, bounds, values, month, pair, fine);
+        return brief_evaluate(text, days, span, factors, bounds, values, month, pair);
     }
     if letters < 192 {
-        return short_evaluate(text, days, span, factors, bounds, values, month, pair, fine);
+        return short_evaluate(text, days, span, factors, bounds, values, month, pair);
     }
-    long_evaluate(text, days, span, factors, bounds, values, month, pair, fine)
-}
-
-// A short text valued as it is read, from its first byte to its last: the number of its payoff, or unsure.
-fn read_worth(
-    text: &[u8],
-    days: &[i64],
-    span: Span,
-    factors: &[i64],
-    bounds: &[i64],
-    values: &[i64],
-    month: Month,
-    pair: Pair,
-) -> u64
-    requires { Short text.now × (are_settings days.now ≡ true) × (between (pos 0) span.f month.0 && pair_ok pair.p pair.q ≡ true)
-        × (is_table (table_of span.h span.f factors.now bounds.now values.now) ≡ true) }
-    ensures { Kept result → got (number_in result) ≡ evaluate_call text.now
-        (given_of days.now span.h span.f factors.now bounds.now values.now) pair.p pair.q month.0 }
-{
-    let asked = [month.0, pair.p, pair.q, span.h, span.f];
-    let waited = Month(0);
-    let found = worth_read::payoff::payoff_at(
-        &text, 0, 32, waited, &asked, &factors, &values, &days,
-    );
-    if packed::place(found) == text.len() + 1 {
-        return found;
-    }
-    packed::UNSURE
-}
-
-// The same for any text: only success is answered, so that no refusal is looked for.
-fn worth_of_short(
-    text: &[u8],
-    days: &[i64],
-    span: Span,
-    factors: &[i64],
-    bounds: &[i64],
-    values: &[i64],
-    month: Month,
-    pair: Pair,
-    fine: bool,
-) -> u64
-    requires { fine ≡ is_table (table_of span.h span.f factors.now bounds.now values.now) }
-    ensures { Kept result → got (number_in result) ≡ evaluate_call text.now
-        (given_of days.now span.h span.f factors.now bounds.now values.now) pair.p pair.q month.0 }
-{
-    if text.len() <= 1000 {
-        if caller_ok(span, month, pair) & tables::settings_ok(days) {
-            if fine {
-                return read_worth(text, days, span, factors, bounds, values, month, pair);
-            }
-        }
-    }
-    packed::UNSURE
-}
-
-// The text as it is read; where that is not sure, with a table.
-fn evaluate_any(
-    text: &[u8],
-    days: &[i64],
-    span: Span,
-    factors: &[i64],
-    bounds: &[i64],
-    values: &[i64],
-    month: Month,
-    pair: Pair,
-) -> Evaluating
-    ensures { evaluating_answer result ≡ evaluate_call text.now
-        (given_of days.now span.h span.f factors.now bounds.now values.now) pair.p pair.q month.0 }
-{
-    let fine = tables::table_ok(span, factors, bounds, values);
-    let found = worth_of_short(text, days, span, factors, bounds, values, month, pair, fine);
-    if packed::is_kept(found) {
-        return Evaluating::Value(Millionths(packed::number(found)));
-    }
-    evaluate_sized(text, days, span, factors, bounds, values, month, pair, fine)
+    long_evaluate(text, days, span, factors, bounds, values, month, pair)
 }
 
 // What a payoff is worth to the pair (p, q) in millionths of a penny, `month` being the month now, or the refusal.
@@ -550,7 +458,7 @@ pub fn evaluate(
     ensures { evaluating_answer result ≡ evaluate_call text.now
         (given_of days.now h f factors.now bounds.now values.now) p q month }
 {
-    evaluate_any(
+    evaluate_sized(
         text,
         days,
         Span { h: h, f: f },

@@ -20,7 +20,7 @@ pub mod transfer;
 pub mod until;
 
 // Payments from p to q count, and those from q to p against them.
-#[derive(Drop)]
+#[derive(Clone, Copy)]
 pub struct Pair {
     pub p: i64,
     pub q: i64,

@@ -14,7 +14,7 @@ use amounts::wait::Wait;
 use integers::Month;
 
 // The wait ended, or it ends after the month.
-#[derive(Drop)]
+#[derive(Clone, Copy)]
 pub enum Until {
     Held(Month),
     Missed(Month),

@@ -1,7 +1,7 @@
 -- One row with its place, as the code makes it.
 use Prim.Native.Nat.{◌*◌, ◌+◌, ◌<◌, ◌≤◌, ℕ}
 use lib.IntN.{pos, ℤ}
-use lib.ListN.{drop, get_or, length, length_set, set}
+use lib.ListN.{drop, get_or, length, length-set, set}
 use lib.Seq.{get_or-drop, get_or-take}
 use mathlib.Core.Bool.{Bool, cond, false, true, true≢false}
 use mathlib.Core.List.{List}
@@ -20,7 +20,7 @@ unfolding placed_row
 place_keeps_size h f row = go (holds_index row)
   where
     go : (b : Bool) → length (cond b (set row 2 (place_found h f (nat_of (get_or row 1 (pos 0))) (get_or row 2 (pos 0)))) row) ≡ length row
-    go true = length_set row 2 (place_found h f (nat_of (get_or row 1 (pos 0))) (get_or row 2 (pos 0)))
+    go true = length-set row 2 (place_found h f (nat_of (get_or row 1 (pos 0))) (get_or row 2 (pos 0)))
     go false = refl
 
 module _ (at : ℕ) (nodes : List ℤ) where

@@ -7,13 +7,13 @@ ghost use Rattle.places.specs.Place.{SpanIn, index_placed, place_found, placed_r
 use tables::Span;
 
 // The fields of an `O`.
-#[derive(Drop)]
+#[derive(Clone, Copy)]
 pub struct Index {
     pub label: i64,
     pub offset: i64,
 }
 
-#[derive(Drop)]
+#[derive(Clone, Copy)]
 pub struct Place(pub i64);
 
 pub fn place_of(span: Span, index: Index) -> Place

@@ -2,7 +2,7 @@
 use Prim.Native.Nat.{◌+◌, ◌-◌, ◌<◌, ◌≤◌, min, suc, zero, ℕ}
 use borrow.Author.Tests.{eqb-true}
 use lib.IntN.{negsuc, pos, ℤ}
-use lib.ListN.{drop, get_or, length, length_drop, length-take, set, take}
+use lib.ListN.{drop, get_or, length, length-drop, length-take, set, take}
 use lib.Seq.{drop_at, drop-cons, drop-drop, ext_get_or, get_or-drop, get_or-set_other, get_or-take, length-sets, length-take-le, set-set, sets, sets-eq, take-add, take-append_seam, take-take}
 use mathlib.Core.Bool.{true, true≢false}
 use mathlib.Core.List.{List, [], ◌++◌, ◌∷◌, append_assoc}
@@ -35,7 +35,7 @@ pub kept_run : (l vs : List ℕ) (i m n : ℕ) → m + n ≤ i → take n (drop 
 kept_run l vs i m n h = ext_get_or 0 (take n (drop m (sets l i vs))) (take n (drop m l)) long each
   where
     size : (k : List ℕ) → length (take n (drop m k)) ≡ min n (length k - m)
-    size k = length-take n (drop m k) ∙ ap (min n) (length_drop m k)
+    size k = length-take n (drop m k) ∙ ap (min n) (length-drop m k)
 
     long : length (take n (drop m (sets l i vs))) ≡ length (take n (drop m l))
     long = size (sets l i vs) ∙ ap (λ k. min n (k - m)) (length-sets l i vs) ∙ sym (size l)
@@ -61,7 +61,7 @@ module _ (old : List ℕ) (from to n : ℕ) (h : from + n ≤ to) (r : to + n �
   word = take n (drop from old)
 
   pub word_length : length word ≡ n
-  word_length = length-take-le n (drop from old) (omega (arith, length_drop from old, h, r))
+  word_length = length-take-le n (drop from old) (omega (arith, length-drop from old, h, r))
 
   pub copied : {out : List ℕ} {i : ℕ} → Spelt word old to out i → i < n → Spelt word old to (set out (to + i) (get_or out (from + i) 0)) (i + 1)
   copied {out} {i} s k = subst (λ b. Spelt word old to (set out (to + i) b) (i + 1)) (sym byte) (spelt_more word old to s (omega (arith, k, word_length)))
@@ -150,7 +150,7 @@ module _ (o : List ℕ) (from to n : ℕ) (h : from + n ≤ to) (r : to + n ≤ 
           ap (λ m. take m (drop from o)) k ∙ take-add (n - 8) 8 (drop from o) ∙ ap (λ m. cs ++ take 8 m) (drop-drop (n - 8) from o)
 
       front : length cs ≡ n - 8
-      front = length-take-le (n - 8) (drop from o) (omega (arith, length_drop from o, h, r))
+      front = length-take-le (n - 8) (drop from o) (omega (arith, length-drop from o, h, r))
 
 -- ---- the line of month m: its month is written, o₁ is the buffer then, and a the place behind it
 
@@ -169,7 +169,7 @@ module _ (column rest : List ℤ) (m : ℕ) {o₀ o₁ : List ℕ} {at a : ℕ} 
         ∙ sym (ap₂ (λ u v. number_field u ++ (number_field v ++ new_line)) x y)
 
     pub same_long : at - mark ≡ length (numbers_text column rest m)
-    same_long = sym (length-take-le (at - mark) (drop mark o₁) (omega (arith, length_drop mark o₁, numbers_room, p.ends))) ∙ ap length same_numbers
+    same_long = sym (length-take-le (at - mark) (drop mark o₁) (omega (arith, length-drop mark o₁, numbers_room, p.ends))) ∙ ap length same_numbers
 
     pub again_room : (mark + (at - mark) ≤ a) × (a + (at - mark) ≤ length o₁)
     again_room = (omega (arith, i, p.ends), omega (arith, same_long, numbers_room))

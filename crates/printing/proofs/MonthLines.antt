@@ -1,7 +1,7 @@
 -- The months' lines, counted and written one by one.
 use Prim.Native.Nat.{◌*◌, ◌+◌, ◌-◌, ◌<◌, ◌≤◌, suc, zero, ℕ}
 use lib.IntN.{ℤ}
-use lib.ListN.{length, length_append}
+use lib.ListN.{length, length-append}
 use mathlib.Core.List.{List, [], ◌++◌, append_assoc, append-nil}
 use mathlib.Core.Path.{◌∙◌, ◌≡◌, ap, refl, sym}
 use native.Mathlib.Omega.{arith}
@@ -20,35 +20,35 @@ module _ (column rest : List ℤ) (m : ℕ) where
   pub month_counted : {a b c : ℕ} → a ≡ length (print_nat m) → b ≡ length (print_number (slot column m)) → c ≡ length (print_number (slot rest m)) → (a + b + c + 3 ≡ length (month_text column rest m)) × (a + b + c + 3 ≤ 70)
   unfolding month_text numbers_text
   month_counted {a} {b} {c} ea eb ec = (
-    omega (arith, ea, eb, ec, length_append (print_nat m) (numbers_text column rest m), length_append (number_field (slot column m)) (number_field (slot rest m) ++ new_line), length_append (number_field (slot rest m)) new_line),
+    omega (arith, ea, eb, ec, length-append (print_nat m) (numbers_text column rest m), length-append (number_field (slot column m)) (number_field (slot rest m) ++ new_line), length-append (number_field (slot rest m)) new_line),
     omega (arith, ea, digits_most m, number_small (slot column m) b eb, number_small (slot rest m) c ec),
   )
 
 pub head_counted : (head : List ℤ) {a b : ℕ} → a ≡ length (print_number (slot head 0)) → b ≡ length (print_number (slot head 1)) → (a + b + 11 ≡ length (head_text head)) × (a + b + 11 ≤ 60)
 unfolding head_text bytes
 head_counted head {a} {b} ea eb = (
-  omega (arith, ea, eb, length_append (number_field (slot head 0)) (number_field (slot head 1) ++ new_line), length_append (number_field (slot head 1)) new_line),
+  omega (arith, ea, eb, length-append (number_field (slot head 0)) (number_field (slot head 1) ++ new_line), length-append (number_field (slot head 1)) new_line),
   omega (arith, number_small (slot head 0) a ea, number_small (slot head 1) b eb),
 )
 
 pub refusal_counted : (number : List ℤ) {a : ℕ} → a ≡ length (print_number (slot number 0)) → a + 9 ≡ length (refusal_text number)
 unfolding refusal_text bytes
-refusal_counted number {a} ea = omega (arith, ea, length_append (number_field (slot number 0)) new_line)
+refusal_counted number {a} ea = omega (arith, ea, length-append (number_field (slot number 0)) new_line)
 
 months_most : (column rest : List ℤ) (m n : ℕ) → length (months_text column rest m n) ≤ 70 * n
 unfolding months_text
 months_most column rest m zero = omega arith
 months_most column rest m (suc n) =
-    omega (arith, length_append (month_text column rest m) (months_text column rest (suc m) n), month_counted column rest m refl refl refl, months_most column rest (suc m) n)
+    omega (arith, length-append (month_text column rest m) (months_text column rest (suc m) n), month_counted column rest m refl refl refl, months_most column rest (suc m) n)
 
 -- the whole answer
 pub all_counted : (head column rest : List ℤ) (months : ℕ) {a b : ℕ} → a ≡ length (head_text head) → b ≡ length (months_text column rest 0 months) → a + b ≡ length (head_text head ++ months_text column rest 0 months)
-all_counted head column rest months ea eb = omega (arith, ea, eb, length_append (head_text head) (months_text column rest 0 months))
+all_counted head column rest months ea eb = omega (arith, ea, eb, length-append (head_text head) (months_text column rest 0 months))
 
 -- where the longest lines fit, these do
 pub surely_fits : (head column rest : List ℤ) (months room : ℕ) → 60 + 70 * months ≤ room → length (head_text head ++ months_text column rest 0 months) ≤ room
 surely_fits head column rest months room h =
-    omega (arith, length_append (head_text head) (months_text column rest 0 months), head_counted head refl refl, months_most column rest 0 months)
+    omega (arith, length-append (head_text head) (months_text column rest 0 months), head_counted head refl refl, months_most column rest 0 months)
 
 pub short_number : (z : ℤ) {a : ℕ} → a ≡ length (print_number z) → a ≤ 21
 short_number z {a} e = number_small z a e
@@ -80,7 +80,7 @@ module _ (column rest : List ℤ) where
 
   pub counted_more : {months sum m r : ℕ} → Counted months sum m → m < months → r ≡ length (month_text column rest m) → r ≤ 70 → Counted months (sum + r) (m + 1)
   counted_more {months} {sum} {m} {r} s h e l = record {
-    is = omega (arith, s.is, ap length (next_months m months h), length_append (month_text column rest m) (text (m + 1) (months - (m + 1))));
+    is = omega (arith, s.is, ap length (next_months m months h), length-append (month_text column rest m) (text (m + 1) (months - (m + 1))));
     most = omega arith;
     small = omega (arith, s.small);
   }

@@ -35,7 +35,7 @@ fn month_length(column: &[i64], rest: &[i64], m: usize) -> usize
 }
 
 // Where a line's numbers start, behind its month, and where the next line starts.
-#[derive(Drop)]
+#[derive(Clone, Copy)]
 pub struct Line {
     pub mark: usize,
     pub next: usize,

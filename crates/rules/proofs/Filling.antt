@@ -1,7 +1,7 @@
 -- A plan that stands in the table: found there, and filled there.
 use Prim.Native.Nat.{◌*◌, ◌≤◌, ℕ}
 use lib.IntN.{ℤ}
-use lib.ListN.{drop, length, length_append, take, take-append-drop}
+use lib.ListN.{drop, length, length-append, take, take-append-drop}
 use lib.Seq.{take_at}
 use mathlib.Core.Bool.{true}
 use mathlib.Core.List.{List, ◌++◌}
@@ -42,7 +42,7 @@ module _ {nodes : List ℤ} {count : ℕ} {x : Plan Delay} (s : Standing nodes c
   whole = sym (take-append-drop (5 * count) nodes) ∙ ap (λ y. y ++ drop (5 * count) nodes) s.lies
 
   pub standing_rows : 5 * count ≤ length nodes
-  standing_rows = omega (arith, ap length whole, length_append (rows plan_form (plan_trees x end)) (drop (5 * count) nodes), rows_length plan_form (plan_trees x end), s.counted)
+  standing_rows = omega (arith, ap length whole, length-append (rows plan_form (plan_trees x end)) (drop (5 * count) nodes), rows_length plan_form (plan_trees x end), s.counted)
 
   pub standing_few : count ≤ max_nodes
   standing_few = omega (arith, s.counted, plan_rows x s.formed)

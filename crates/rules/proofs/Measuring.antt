@@ -1,6 +1,6 @@
 -- The rules of a filled plan in their order, as the code goes through them.
 use Prim.Native.Nat.{◌%◌, ◌+◌, ◌/◌, ◌≤◌, ℕ}
-use borrow.Author.Tests.{le_leb, lt-leb}
+use borrow.Author.Tests.{le-leb, lt-leb}
 use lib.Dec.{T, leb}
 use lib.IntN.{◌+ℤ◌, ◌-ℤ◌, nat_abs, negsuc, pos, ℤ}
 use lib.ListN.{length}
@@ -131,13 +131,13 @@ module _ (today : ℤ) (s : Span) (bounds : List ℤ) (x : Plan ℕ) (h : InTabl
   within_f l e c = go s.f h.f_from (rw (e, from_zero today h.today_from) at c)
     where
       go : (f : ℤ) → T (non_neg f) → lt_z f (pos (nat_of today) +ℤ pos (length_of x)) ≡ false → leb (nat_of today + length_of x) (nat_abs f) ≡ true
-      go (pos n) p q = le_leb (nat_of today + length_of x) n (omega (arith, lt_false (pos n) (pos (nat_of today + length_of x)) q))
+      go (pos n) p q = le-leb (nat_of today + length_of x) n (omega (arith, lt_false (pos n) (pos (nat_of today + length_of x)) q))
       go (negsuc n) p q = absurd p
 
   -- a plan that keeps every rule, `high` months from the table's end; r is its number
   module _ {high : ℤ} {r : ℕ} (eh : high ≡ rd s.f -ℤ today) (k : Sure table (nat_of today) (nat_of today) (bound_in bounds) 0 high x r) where
     ended : leb (nat_of today + length_of x) (nat_abs s.f) ≡ true
-    ended = le_leb (nat_of today + length_of x) (nat_abs s.f) (go s.f h.f_from (sym (eh ∙ ap₂ ◌-ℤ◌ (end_reads today s bounds h) (from_zero today h.today_from)) ∙ k.length))
+    ended = le-leb (nat_of today + length_of x) (nat_abs s.f) (go s.f h.f_from (sym (eh ∙ ap₂ ◌-ℤ◌ (end_reads today s bounds h) (from_zero today h.today_from)) ∙ k.length))
       where
         go : (f : ℤ) → T (non_neg f) → f -ℤ pos (nat_of today) ≡ pos (length_of x + r % 1024) → nat_of today + length_of x ≤ nat_abs f
         go (pos n) p q = omega (arith, eq_in (lit n ⊖ lit (nat_of today)) (lit (length_of x + r % 1024)) q)

@@ -1,6 +1,6 @@
 -- A text that was measured as it was read: what the call answers.
 use Prim.Native.Nat.{◌%◌, ◌+◌, ◌/◌, ◌≤◌, ℕ}
-use borrow.Author.Tests.{le_leb}
+use borrow.Author.Tests.{le-leb}
 use lib.IntN.{nat_abs, pos, ℤ}
 use lib.ListN.{length}
 use mathlib.Core.Bool.{◌&&◌, true}
@@ -38,12 +38,12 @@ in_time_lem {today} {h} {f} s m =
     let b = both_true (between (pos 0) (pos max_back) h) (between (pos 0) (pos max_months) f) s in
     in_span (up_to_lem max_back h b.0, up_to_lem max_months f b.1) m (record { within = tt })
 
-module _ (text : List ℕ) (short : Short text) (x : Plan Delay) {next : ℕ} (r : Reads plan_form max_depth root text 0 next (plan_trees x)) (e : next ≡ length text + 1) where
+module _ (text : List ℕ) (short : Short text) (x : Plan Delay) {next : ℕ} (r : Reads max_depth root text 0 next (plan_trees x)) (e : next ≡ length text + 1) where
   -- read up to its end
   whole : text_as_read plan_form text ≡ got (plan_trees x end)
   unfolding text_as_read read_trees read_beside
   whole =
-      rw (le_leb (length text) plan_bytes (omega (arith, short.short)), ← at_start text, r.is [] 0 (omega arith), from_behind text next (omega (arith, e))) refl
+      rw (le-leb (length text) plan_bytes (omega (arith, short.short)), ← at_start text, r.is [] 0 (omega arith), from_behind text next (omega (arith, e))) refl
 
   pub read_whole : read_plan text ≡ got x
   unfolding read_plan

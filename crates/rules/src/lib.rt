@@ -20,7 +20,7 @@ use tables::Span;
 use tables::fill::Filling;
 use text::{Reading, Refusal};
 
-#[derive(Drop)]
+#[derive(Clone, Copy)]
 pub enum Checking {
     Accepted(Month, Pence),
     Refused(Refusal),
@@ -56,7 +56,7 @@ fn measure_in_order(nodes: &[i64], today: Month, span: Span, bounds: &[i64]) -> 
 }
 
 // What a quick walk finds of a plan: that it keeps every rule, or nothing sure.
-#[derive(Drop)]
+#[derive(Clone, Copy)]
 enum Quick {
     Kept(Month, Pence),
     Unsure,

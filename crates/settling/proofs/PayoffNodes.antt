@@ -1,7 +1,7 @@
 -- Settling the row of each node of a payoff in form is a change of its fields.
 use Prim.Native.Nat.{ℕ}
 use lib.IntN.{nat_abs, pos, ℤ}
-use borrow.Author.Tests.{le_leb}
+use borrow.Author.Tests.{le-leb}
 use mathlib.Core.Bool.{Bool, ◌&&◌, false, true}
 use mathlib.Core.List.{List, [], ◌∷◌}
 use mathlib.Core.Path.{◌∙◌, ◌≡◌, ap, refl, sym}
@@ -38,13 +38,13 @@ abbrev pub plain_month : ℤ → Field
 plain_month z = a_month (record { plain = z; settings = [] })
 
 -- a month comes back from its two numbers
-pub month_back : (m : Month) → MonthField m → month_from m.plain (pos (settings_slot m.settings)) ≡ m
+month_back : (m : Month) → MonthField m → month_from m.plain (pos (settings_slot m.settings)) ≡ m
 month_back m h = ap (λ ks. record { plain = m.plain; settings = ks }) (settings_back m.settings h.sorted h.count)
 
-pub month_in_lem : (m : Month) → MonthField m → month_in m.plain (pos (settings_slot m.settings)) ≡ true
+month_in_lem : (m : Month) → MonthField m → month_in m.plain (pos (settings_slot m.settings)) ≡ true
 month_in_lem m h =
     let s = nat_abs_le m.plain max_month (omega (arith, parts_le h.high)) (omega (arith, parts_le h.low, up_neg (pos max_back), dn_neg (pos max_back))) in
-    rw (le_leb (nat_abs m.plain) max_month s) refl
+    rw (le-leb (nat_abs m.plain) max_month s) refl
 
 module _ (days : List ℤ) where
   -- ---- a field settled, and whether its settings are set

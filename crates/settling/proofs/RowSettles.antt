@@ -3,7 +3,7 @@ use Prim.Native.Nat.{◌*◌, ◌+◌, ◌<◌, ◌≤◌, ℕ}
 use borrow.Author.Tests.{leb-true}
 use lib.Dec.{T, leb}
 use lib.IntN.{+ℤ_idr, ◌+ℤ◌, nat_abs, pos, ℤ}
-use lib.ListN.{drop, get_or, length, length_append, length_set, set, take}
+use lib.ListN.{drop, get_or, length, length-append, length-set, set, take}
 use lib.Seq.{drop_at, drop-drop, get_or-drop, get_or-take, length-take-le, set-get_or, take_at}
 use lib.Signed.{non_neg}
 use mathlib.Core.Bool.{Bool, ◌||◌, cond, false, true, true≢false}
@@ -100,7 +100,7 @@ settle_keeps_month : (days : List ℤ) (k : ℕ) (row : List ℤ) → length (se
 unfolding settle_month
 settle_keeps_month days k row =
     let v : ℤ = month_of (setting_at days) (month_from (get_or row k (pos 0)) (get_or row (k + 1) (pos 0))) in
-    length_set (set row k v) (k + 1) (pos 0) ∙ length_set row k v
+    length-set (set row k v) (k + 1) (pos 0) ∙ length-set row k v
 
 pub settle_keeps_size : (days row : List ℤ) → length (settle_row days row) ≡ length row
 unfolding settle_row
@@ -109,7 +109,7 @@ settle_keeps_size days row = go (holds_index row) (is_leaf row) (is_await row)
     go : (a b c : Bool) → length (cond a (settle_month days 2 row) (cond b (settle_month days 1 row) (cond c (set row 1 (fill_delay days (get_or row 1 (pos 0)))) row))) ≡ length row
     go true b c = settle_keeps_month days 2 row
     go false true c = settle_keeps_month days 1 row
-    go false false true = length_set row 1 (fill_delay days (get_or row 1 (pos 0)))
+    go false false true = length-set row 1 (fill_delay days (get_or row 1 (pos 0)))
     go false false false = refl
 
 -- where all rows pass a test, so does the next
@@ -137,7 +137,7 @@ module _ (at : ℕ) (nodes : List ℤ) (room : at + 5 ≤ length nodes) (R : Lis
   again_row = ap (take 5) behind ∙ take_at R (drop (at + 5) nodes) 5 five
 
   again_size : at + 5 ≤ length now
-  again_size = omega (arith, length_append (take at nodes) (R ++ drop (at + 5) nodes), length_append R (drop (at + 5) nodes), front)
+  again_size = omega (arith, length-append (take at nodes) (R ++ drop (at + 5) nodes), length-append R (drop (at + 5) nodes), front)
 
   again : (S : List ℤ) → with_row at S now ≡ with_row at S nodes
   again S = ap₂ (λ x y. x ++ (S ++ y)) (take_at (take at nodes) (R ++ drop (at + 5) nodes) at front) (sym (drop-drop 5 at now) ∙ ap (drop 5) behind ∙ drop_at R (drop (at + 5) nodes) 5 five)
@@ -174,7 +174,7 @@ module _ (days : List ℤ) (at : ℕ) (nodes : List ℤ) where
     unfolding settle_month
     month_in_row room =
         let v : ℤ = month_of (setting_at days) (month_from plain_at digits_at) in
-        let five : length (set row k v) ≡ 5 = length_set row k v ∙ row_size at nodes room in
+        let five : length (set row k v) ≡ 5 = length-set row k v ∙ row_size at nodes room in
         rw (plain_in, digits_in)
         (ap₂ (λ xs i. set xs i (pos 0)) (set_in_row at k v nodes (omega arith) room) (add_assoc at k 1)
         ∙ set_in_row at (k + 1) (pos 0) (with_row at (set row k v) nodes) (omega arith) (again_size at nodes room (set row k v) five)

@@ -4,7 +4,7 @@ ghost use Rattle.language.specs.Rules.Table.{are_settings};
 ghost use Rattle.nodes.specs.Rows.{settings_from, settings_in};
 ghost use Rattle.settling.specs.Sums.{SumIs};
 
-#[derive(Drop)]
+#[derive(Clone, Copy)]
 pub enum Summed {
     Months(u64),
     Unset,
@@ -25,7 +25,7 @@ pub fn term(days: &[i64], k: usize, n: u64) -> Summed
 }
 
 // The digits without those of the settings below Pk.
-#[derive(Drop)]
+#[derive(Clone, Copy)]
 pub struct Start {
     pub k: usize,
     pub rest: u64,

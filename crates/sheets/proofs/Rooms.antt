@@ -1,8 +1,8 @@
 -- Lists that a sheet's table is read into: what it says that they hold it.
 use Prim.Native.Nat.{◌≤◌, ℕ}
-use borrow.Author.Tests.{le_leb, leb-true}
+use borrow.Author.Tests.{le-leb, leb-true}
 use lib.Dec.{leb}
-use mathlib.Core.Bool.{Bool, ◌&&◌, ◌||◌, false, or_true, true, true≢false}
+use mathlib.Core.Bool.{Bool, ◌&&◌, ◌||◌, false, or-true, true, true≢false}
 use mathlib.Core.Path.{◌∙◌, ◌≡◌, ap₂, refl, sym}
 use native.Mathlib.Omega.{arith}
 use Rattle.language.proofs.Truth.{and_e}
@@ -21,4 +21,4 @@ module _ (n months m places : ℕ) where
 
   pub crowded : ((leb n months || leb 601 months) && (leb m places || leb 5288 places)) ≡ false → (601 ≤ months) × (5288 ≤ places) → ⊥
   crowded h k =
-      true≢false (sym (ap₂ (λ a b. (leb n months || a) && (leb m places || b)) (le_leb 601 months k.0) (le_leb 5288 places k.1) ∙ ap₂ ◌&&◌ (or_true (leb n months)) (or_true (leb m places))) ∙ h)
+      true≢false (sym (ap₂ (λ a b. (leb n months || a) && (leb m places || b)) (le-leb 601 months k.0) (le-leb 5288 places k.1) ∙ ap₂ ◌&&◌ (or-true (leb n months)) (or-true (leb m places))) ∙ h)

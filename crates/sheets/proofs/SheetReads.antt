@@ -1,6 +1,6 @@
 -- A sheet that was read: the call is the answer for its plan, with the table and settings that the code holds.
 use Prim.Native.Nat.{◌+◌, ◌-◌, ◌<◌, ◌≤◌, min, suc, zero, ℕ}
-use borrow.Author.Tests.{le_leb, leb-false, leb-true, lt-leb}
+use borrow.Author.Tests.{le-leb, leb-false, leb-true, lt-leb}
 use lib.Dec.{leb}
 use lib.IntN.{nat_abs, pos, ℤ}
 use lib.ListN.{drop, length, length-take, take}
@@ -58,7 +58,7 @@ module _ (input : List ℕ) (short : length input ≤ sheet_bytes) where
     whole : sheet_answer input ≡ planned s
     unfolding sheet_answer read_sheet planned answer_of
     whole =
-        rw (le_leb (length input) sheet_bytes short, is)
+        rw (le-leb (length input) sheet_bytes short, is)
         (bind_same (read_plan s.plan) (λ plan. bind_same (accept_plan s.given (pos 0) (pair_ok s.from s.to) plan) (λ c. ap (λ (r : Answer (List ℕ)). r >>= λ lines. got (line (bytes "accepted" ∷ print_nat (length_of c) ∷ print_nat (magnitude_of (bound_at s.given.table) c) ∷ []) ++ lines)) (same_lines s plan c (nat_abs s.given.table.f + 1) 0))))
 
 -- ---- settings beyond eight are refused, whatever they are
@@ -136,7 +136,7 @@ module _ {input : List ℕ} {days factors bounds values : List ℤ} {sheet : She
       go false r = r
       go true r =
           let a = holds_all r in
-          absurd (true≢false (sym (rw (le_leb sheet.factors 601 a.0, le_leb sheet.labels 8 a.1, le_leb sheet.values 5288 a.2) refl) ∙ e))
+          absurd (true≢false (sym (rw (le-leb sheet.factors 601 a.0, le-leb sheet.labels 8 a.1, le-leb sheet.values 5288 a.2) refl) ∙ e))
 
   -- ---- what the code holds
   module _ (h : (leb sheet.factors 601 && (leb sheet.labels 8 && leb sheet.values 5288)) ≡ true) where
@@ -235,4 +235,4 @@ too_long input h out = by_answer input (refused 1) (rw (lt-leb (length input) sh
 
 pub faulty : (input : List ℕ) → length input ≤ sheet_bytes → (lines_of (split_at (byte "\n") input) >>= λ ls. paper.sheet_of ls) ≡ refused 2 → (out : List ℕ) → refusal_into 2 out ≡ sheet_call input out
 unfolding refusal_into sheet_answer read_sheet
-faulty input h e out = by_answer input (refused 2) (rw (le_leb (length input) sheet_bytes h, e) refl) out
+faulty input h e out = by_answer input (refused 2) (rw (le-leb (length input) sheet_bytes h, e) refl) out

@@ -327,7 +327,7 @@ fn answer_read(
 }
 
 // An answer, or that the lent lists do not hold the sheet's table though longer ones might.
-#[derive(Drop)]
+#[derive(Clone, Copy)]
 pub enum Tried {
     Answered(Written),
     Crowded,

@@ -1,6 +1,6 @@
 -- A place gives back the offset that it was made of, and every number on the way fits.
 use Prim.Native.Nat.{◌*◌, ◌+◌, ◌<◌, ◌≤◌, suc, zero, ℕ}
-use borrow.Author.Tests.{leb-false, ltb-true, le_leb, le-ltb, lt-ltb}
+use borrow.Author.Tests.{leb-false, ltb-true, le-leb, le-ltb, lt-ltb}
 use lib.Dec.{ltb}
 use lib.IntN.{◌+ℤ◌, ◌-ℤ◌, nat_abs, negsuc, neg_ℤ, pos, pred_ℤ, ℤ}
 use lib.Signed.{le_z}
@@ -33,15 +33,15 @@ near_zero n z e =
     nat_abs_le z n (omega (arith, le_true z (pos n) b.1)) (omega (arith, le_true (neg_ℤ (pos n)) z b.0, up_neg (pos n), dn_neg (pos n)))
 
 is_near : (z : ℤ) → nat_abs z ≤ max_place → between (neg_ℤ (pos max_place)) (pos max_place) z ≡ true
-is_near (pos m) h = le_leb m max_place h
-is_near (negsuc m) h = rw (le_leb m 9_999 (omega arith)) refl
+is_near (pos m) h = le-leb m max_place h
+is_near (negsuc m) h = rw (le-leb m 9_999 (omega arith)) refl
 
 in-form-near : (i : ℤ) → offset_in_form i → nat_abs i ≤ max_months
 in-form-near i g = nat_abs_le i max_months (omega (arith, parts_le g.1)) (omega (arith, parts_le g.0))
 
 -- a label with offset 0 has a place
 pub label_in : (l : ℕ) → l < max_labels → index_placed (pos l) (pos 0) ≡ true
-label_in l h = rw (le_leb 0 l (omega arith), lt-ltb l max_labels h) refl
+label_in l h = rw (le-leb 0 l (omega arith), lt-ltb l max_labels h) refl
 
 -- ---- the offset
 

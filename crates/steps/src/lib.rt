@@ -71,7 +71,7 @@ pub fn step_rows(
 }
 
 // What the pair pays today, and how many rows of the plan for tomorrow are written.
-#[derive(Drop)]
+#[derive(Clone, Copy)]
 pub struct Today {
     pub pence: Pence,
     pub next: usize,

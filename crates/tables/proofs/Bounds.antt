@@ -1,5 +1,5 @@
 -- A bound's range: no further from zero than the bound.
-use Rattle.std.proofs.Common.{◌≡◌, ℕ, zero, suc, ◌≤◌, Bool, true, false, ◌&&◌, leb, ℤ, pos, negsuc, ◌-ℤ◌, neg_ℤ, nat_abs, refl, ap, ◌∙◌, arith, to_z-of_z, w64, SFits, le_leb, leb-false, leb-true}
+use Rattle.std.proofs.Common.{◌≡◌, ℕ, zero, suc, ◌≤◌, Bool, true, false, ◌&&◌, leb, ℤ, pos, negsuc, ◌-ℤ◌, neg_ℤ, nat_abs, refl, ap, ◌∙◌, arith, to_z-of_z, w64, SFits, le-leb, leb-false, leb-true}
 use borrow.Author.Tests.{lt-leb}
 use lib.IntN.{sub_ℕ}
 use lib.Signed.{le_z}
@@ -12,11 +12,11 @@ use Rattle.tables.proofs.Spans.{both_true}
 use Rattle.tables.specs.Words.{Narrow}
 
 nearer_below : (n m : ℕ) (b : Bool) → leb n m ≡ b → leb (suc n) (suc m) ≡ b && true
-nearer_below n m true e = le_leb (suc n) (suc m) (omega (arith, leb-true n m e))
+nearer_below n m true e = le-leb (suc n) (suc m) (omega (arith, leb-true n m e))
 nearer_below n m false e = lt-leb (suc n) (suc m) (omega (arith, leb-false n m e))
 
 nearer_by : (m : ℕ) (v : ℤ) → leb (nat_abs v) m ≡ between (neg_ℤ (pos m)) (pos m) v
-nearer_by zero (pos n) = rw (le_leb 0 n (omega arith)) refl
+nearer_by zero (pos n) = rw (le-leb 0 n (omega arith)) refl
 nearer_by zero (negsuc n) = lt-leb (suc n) 0 (omega arith)
 nearer_by (suc m) (pos n) = refl
 nearer_by (suc m) (negsuc n) = nearer_below n m (leb n m) refl

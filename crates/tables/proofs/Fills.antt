@@ -1,5 +1,5 @@
 -- One delay filled: an open one by its setting, a plain one by itself.
-use Rattle.std.proofs.Common.{◌≡◌, ℕ, zero, suc, ◌+◌, ◌-◌, ◌<◌, ◌≤◌, Bool, true, false, cond, ◌||◌, leb, List, [], ◌∷◌, length, get_or, drop, set, ℤ, pos, negsuc, nat_abs, sym, refl, ap, ◌∙◌, true≢false, add-zero, arith, length_set, get_or-drop, get_or-take, ltb-true, le-ltb, lt-ltb}
+use Rattle.std.proofs.Common.{◌≡◌, ℕ, zero, suc, ◌+◌, ◌-◌, ◌<◌, ◌≤◌, Bool, true, false, cond, ◌||◌, leb, List, [], ◌∷◌, length, get_or, drop, set, ℤ, pos, negsuc, nat_abs, sym, refl, ap, ◌∙◌, true≢false, add-zero, arith, length-set, get_or-drop, get_or-take, ltb-true, le-ltb, lt-ltb}
 use lib.Seq.{set-get_or}
 use lib.Signed.{lt_z}
 use Rattle.integers.specs.Equal.{eq_z}
@@ -60,7 +60,7 @@ unfolding fill_row
 fill_keeps_size days row = go (has_delay row)
   where
     go : (b : Bool) → length (cond b (set row 1 (fill_delay days (get_or row 1 (pos 0)))) row) ≡ length row
-    go true = length_set row 1 (fill_delay days (get_or row 1 (pos 0)))
+    go true = length-set row 1 (fill_delay days (get_or row 1 (pos 0)))
     go false = refl
 
 pub in_row : (at : ℕ) (nodes : List ℤ) (k : ℕ) → k < 5 → get_or (row_from at nodes) k (pos 0) ≡ get_or nodes (at + k) (pos 0)

@@ -1,7 +1,8 @@
 -- A month and a label as a place of the values, or outside the table.
 use Rattle.std.proofs.Common.{◌≡◌, ℕ, ◌+◌, ◌*◌, ◌<◌, ◌≤◌, Bool, true, false, cond, ◌&&◌, T, ltb, List, [], length, get_or, ℤ, pos, negsuc, ◌+ℤ◌, neg_ℤ, nat_abs, sym, refl, ap, ◌∙◌, subst, true≢false, mul-le-mul_right, mul-le-mul, arith, ltb-true, le-ltb, lt-ltb}
+use lib.Signed.{le_z, lt_z, non_neg}
 use Rattle.integers.proofs.Laws.{nat_abs_parts}
-use Rattle.integers.proofs.Solver.{◌⊕◌, dn, lit, sound, up, var, ⊝}
+use Rattle.integers.proofs.Solver.{◌⊕◌, dn, lit, ring, sound, up, var, ⊝}
 use Rattle.integers.proofs.Tests.{le_false, le_true, lt_false, lt_true}
 use Rattle.language.proofs.Truth.{and_e}
 use Rattle.language.specs.Answer.{got, refused}
@@ -9,9 +10,8 @@ use Rattle.language.specs.Limits.{max_labels}
 use Rattle.language.specs.Rules.Table.{readable, value_at}
 use Rattle.language.specs.Text.Number.{between}
 use Rattle.tables.specs.Lookup.{Inside, Kept, KeptSpan, looked_up, place_for, read_table, standing}
-use Rattle.tables.specs.declared.lookup.Place.TheVariants.{At, Nowhere}
 use Rattle.tables.specs.declared.lookup.Place.{Place}
-use lib.Signed.{le_z, lt_z, non_neg}
+use Rattle.tables.specs.declared.lookup.Place.TheVariants.{At, Nowhere}
 
 none_below : (z : ℤ) → lt_z z (pos 0) ≡ false → dn z ≡ 0
 none_below (pos n) e = refl
@@ -87,6 +87,34 @@ module _ (h f : ℤ) (bounds : List ℤ) (k : KeptSpan h f) (label : ℕ) (m : �
         pub stands : (i : ℕ) → i ≡ label * count + nat_abs p → At i ≡ place
         unfolding place_for
         stands i g = let r = covers (inside (nat_abs h) (nat_abs f) m (rw shifted at c) (rw shifted at d)) in rw r (ap At (g ∙ ap (λ z. label * count + nat_abs z) e))
+
+not_below : (n : ℕ) → lt_z (pos n) (pos 0) ≡ false
+not_below n = go (lt_z (pos n) (pos 0)) refl
+  where
+    go : (b : Bool) → lt_z (pos n) (pos 0) ≡ b → b ≡ false
+    go false e = refl
+    go true e = absurd (omega (arith, lt_true (pos n) (pos 0) e))
+
+pub nowhere_at : (i : ℕ) → Nowhere ≡ At i → ⊥
+nowhere_at i e = let z : ◌≡◌ {A = ℕ} 0 1 = cc in omega arith
+
+pub at_injective : {i j : ℕ} → At j ≡ At i → i ≡ j
+at_injective e = cc
+
+-- ---- four months in a row: k months after a month whose distance from -h is p
+
+module _ (h f : ℤ) (bounds : List ℤ) (s : KeptSpan h f) (label : ℕ) (m : ℤ) (l : label < length bounds) (p : ℤ) (e : p ≡ m +ℤ h) (c : lt_z p (pos 0) ≡ false) where
+  further : (k : ℕ) → p +ℤ pos k ≡ (m +ℤ pos k) +ℤ h
+  further k = ap (λ z. z +ℤ pos k) e ∙ ring ((var m ⊕ var h) ⊕ lit k) ((var m ⊕ lit k) ⊕ var h) (omega arith)
+
+  onward : (k : ℕ) → p +ℤ pos k ≡ pos (nat_abs p + k)
+  onward k = ap (λ z. z +ℤ pos k) (natural p (from_zero h f bounds s label m l p e c))
+
+  pub stands_on : (n : ℕ) → n ≡ nat_abs h + nat_abs f + 1 → nat_abs p + 3 < n → (i : ℕ) → i ≡ label * n + nat_abs p → (k : ℕ) → k < 4 → At (i + k) ≡ place_for h f bounds label (m +ℤ pos k)
+  stands_on n en d i ei k b =
+      let q : nat_abs (p +ℤ pos k) ≡ nat_abs p + k = ap nat_abs (onward k) in
+      let z : lt_z (p +ℤ pos k) (pos 0) ≡ false = rw (onward k) (not_below (nat_abs p + k)) in
+      stands h f bounds s label (m +ℤ pos k) l (p +ℤ pos k) (further k) z (omega (arith, q, en)) (i + k) (omega (arith, q, ei, ap (λ x. label * x) en))
 
 -- ---- what stands at the place of a label and a month
 

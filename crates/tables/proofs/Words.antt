@@ -1,5 +1,5 @@
 -- A number's 64 bits, and a range tested by one comparison of them.
-use Rattle.std.proofs.Common.{◌≡◌, ℕ, suc, ◌+◌, ◌-◌, ◌%◌, ◌<◌, ◌≤◌, Bool, true, false, cond, ◌&&◌, leb, ℤ, pos, negsuc, ◌+ℤ◌, nat_abs, sym, refl, ap, ◌∙◌, arith, to_z-of_z, w64, Fits, SFits, le_leb, leb-false, leb-true}
+use Rattle.std.proofs.Common.{◌≡◌, ℕ, suc, ◌+◌, ◌-◌, ◌%◌, ◌<◌, ◌≤◌, Bool, true, false, cond, ◌&&◌, leb, ℤ, pos, negsuc, ◌+ℤ◌, nat_abs, sym, refl, ap, ◌∙◌, arith, to_z-of_z, w64, Fits, SFits, le-leb, leb-false, leb-true}
 use borrow.Author.Tests.{lt-leb}
 use lib.Bits.{and_le_r, bit_or, or_add_and, or_comm, or_lt}
 use lib.Signed.{le_z, lt_z}
@@ -72,7 +72,7 @@ fits_above (negsuc a) f = omega (arith, f.sfits)
 -- r is how far x lies above low, w how far high does
 compared : (low high x : ℤ) (r w : ℕ) → SFits w64 high → SFits w64 x → w + up low + dn high ≡ up high + dn low
     → (b : Bool) → le_z low x ≡ b → r + up low + dn x ≡ up x + dn low + cond b 0 18446744073709551616 → (d : Bool) → le_z x high ≡ d → leb r w ≡ b && d
-compared low high x r w f g k true e h true d = le_leb r w (omega (arith, le_true x high d))
+compared low high x r w f g k true e h true d = le-leb r w (omega (arith, le_true x high d))
 compared low high x r w f g k true e h false d = lt-leb r w (omega (arith, le_false x high d))
 compared low high x r w f g k false e h d l = lt-leb r w (omega (arith, fits_below high f, fits_above x g))
 
@@ -113,7 +113,7 @@ clear a = leb a 9223372036854775807
 halves : (y z w over : ℕ) → y < 18446744073709551616 → z < 18446744073709551616 → over < 18446744073709551616 → w ≤ 9223372036854775807
     → (over + 9223372036854775807) % 18446744073709551616 ≡ w → (z + over) % 18446744073709551616 ≡ y
     → (a b : Bool) → clear y ≡ a → clear z ≡ b → leb y w ≡ a && b
-halves y z w over h g o r e s true true p q = le_leb y w (omega (arith, leb-true y 9223372036854775807 p, leb-true z 9223372036854775807 q))
+halves y z w over h g o r e s true true p q = le-leb y w (omega (arith, leb-true y 9223372036854775807 p, leb-true z 9223372036854775807 q))
 halves y z w over h g o r e s true false p q = lt-leb y w (omega (arith, leb-true y 9223372036854775807 p, leb-false z 9223372036854775807 q))
 halves y z w over h g o r e s false b p q = lt-leb y w (omega (arith, leb-false y 9223372036854775807 p))
 
@@ -131,7 +131,7 @@ least_joined : (a b : ℕ) → a ≤ bit_or a b
 least_joined a b = omega (arith, or_add_and a b, and_le_r a b)
 
 joined_by : (a b : ℕ) (p q : Bool) → clear a ≡ p → clear b ≡ q → clear (bit_or a b) ≡ p && q
-joined_by a b true true e h = le_leb (bit_or a b) 9223372036854775807 (omega (arith, or_lt 63 a b (omega (arith, leb-true a 9223372036854775807 e)) (omega (arith, leb-true b 9223372036854775807 h))))
+joined_by a b true true e h = le-leb (bit_or a b) 9223372036854775807 (omega (arith, or_lt 63 a b (omega (arith, leb-true a 9223372036854775807 e)) (omega (arith, leb-true b 9223372036854775807 h))))
 joined_by a b true false e h = lt-leb (bit_or a b) 9223372036854775807 (omega (arith, leb-false b 9223372036854775807 h, least_joined b a, or_comm a b))
 joined_by a b false q e h = lt-leb (bit_or a b) 9223372036854775807 (omega (arith, leb-false a 9223372036854775807 e, least_joined a b))
 

@@ -5,7 +5,7 @@ ghost use Rattle.nodes.specs.Pass.{row_from};
 ghost use Rattle.tables.specs.Fill.{FillIs, RowIs, SlotIs};
 ghost use Rattle.tables.specs.Skips.{Skips, plan_step};
 
-#[derive(Drop)]
+#[derive(Clone, Copy)]
 pub enum Filling {
     Filled,
     Unset,

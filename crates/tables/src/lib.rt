@@ -10,7 +10,7 @@ pub mod fill;
 pub mod lookup;
 
 // The whole numbers from low to high.
-#[derive(Drop)]
+#[derive(Clone, Copy)]
 pub struct Range {
     pub low: i64,
     pub high: i64,
@@ -132,7 +132,7 @@ pub fn values_bounded(n: usize, bounds: &[i64], values: &[i64]) -> bool
 }
 
 // The months that a table covers, and how many labels it has.
-#[derive(Drop)]
+#[derive(Clone, Copy)]
 pub struct Span {
     pub h: i64,
     pub f: i64,

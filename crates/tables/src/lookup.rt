@@ -1,5 +1,5 @@
 // Looking a value up.
-ghost use Rattle.std.specs.Prelude.{◌≡◌, ◌+◌, ◌<◌, ◌≤◌, length, pos, slice_index_or, unsigned_abs};
+ghost use Rattle.std.specs.Prelude.{◌≡◌, ℕ, ◌+◌, ◌<◌, ◌≤◌, length, ℤ, pos, ◌+ℤ◌, slice_index_or, unsigned_abs};
 ghost use Rattle.integers.specs.Bounded.{Small};
 ghost use Rattle.language.specs.Limits.{max_labels};
 ghost use Rattle.tables.specs.declared.lookup.Place.TheVariants.{At};
@@ -8,14 +8,14 @@ ghost use Rattle.tables.specs.Lookup.{Inside, Kept, KeptSpan, found_answer, look
 use crate::Span;
 use integers::{Month, Pence};
 
-#[derive(Drop)]
+#[derive(Clone, Copy)]
 pub enum Found {
     Value(Pence),
     Outside,
 }
 
 // Where the value of a label in a month stands among the values.
-#[derive(Drop)]
+#[derive(Clone, Copy)]
 pub enum Place {
     At(usize),
     Nowhere,
@@ -44,6 +44,31 @@ pub fn find_place(bounds: &[i64], span: Span, label: usize, month: Month) -> Pla
     }
     let at = place.0 as usize;
     if n <= at {
+        return Place::Nowhere;
+    }
+    let i = label * n + at;
+    Place::At(i)
+}
+
+// The place in the first of four months in a row, where all four are in the table.
+pub fn four_places(bounds: &[i64], span: Span, label: usize, month: Month) -> Place
+    requires { KeptSpan span.h span.f × (length bounds.now ≤ max_labels) × Small month.0 }
+    ensures { (i : ℕ) → result ≡ At i → (k : ℕ) → k < 4 → At (i + k) ≡ place_for span.h span.f bounds.now label (month.0 +ℤ pos k) }
+{
+    let back = Month(span.h);
+    let n = months(span);
+    let place = integers::later(month, back);
+    if bounds.len() <= label {
+        return Place::Nowhere;
+    }
+    if place.0 < 0 {
+        return Place::Nowhere;
+    }
+    let at = place.0 as usize;
+    if n <= at {
+        return Place::Nowhere;
+    }
+    if n - at < 4 {
         return Place::Nowhere;
     }
     let i = label * n + at;

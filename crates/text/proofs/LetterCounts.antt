@@ -1,6 +1,6 @@
 -- Laws of the letters that a text has.
 use Prim.Native.Nat.{◌+◌, ◌<◌, ◌≤◌, suc, zero, ℕ}
-use borrow.Author.Tests.{le_leb}
+use borrow.Author.Tests.{le-leb}
 use lib.Dec.{eqb, leb}
 use lib.ListN.{drop, drop_of_length-le, get_or, length, take}
 use lib.Seq.{drop-cons}
@@ -45,7 +45,7 @@ letter_more [] zero (suc n) b e h k = absurd (no_byte b e)
 letter_more [] (suc m) (suc n) b e h k = absurd (no_byte b e)
 letter_more (c ∷ cs) zero (suc n) b e h k =
     let p : byte "A" ≤ c = omega (arith, h, first_byte c cs b e) in
-    rw (le_leb (byte "A") c p) (omega arith)
+    rw (le-leb (byte "A") c p) (omega arith)
 letter_more (c ∷ cs) (suc m) (suc n) b e h k = omega (arith, letter_more cs m n b e h (omega (arith, k)))
 
 -- ---- counting from byte to byte

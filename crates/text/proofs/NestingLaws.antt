@@ -3,8 +3,8 @@ use Prim.Native.Nat.{◌%◌, ◌*◌, ◌+◌, ◌-◌, ◌/◌, ◌<◌, ◌�
 use borrow.Author.Tests.{eq-eqb, eqb-false, eqb-true, ne_eqb}
 use lib.Dec.{eqb}
 use lib.IntN.{pos, ℤ}
-use lib.ListN.{get_or, length, length_append, set, take}
-use lib.Seq.{get_or-set_other, get_or-set_same, set-append_left, take_set_lt}
+use lib.ListN.{get_or, length, length-append, set, take}
+use lib.Seq.{get_or-set_other, get_or-set_same, set-append_left, take-set-lt}
 use mathlib.Core.Bool.{Bool, false, true}
 use mathlib.Core.List.{List, [], ◌++◌, ◌∷◌, append_assoc, append-nil}
 use mathlib.Core.Path.{◌∙◌, ◌≡◌, ap, ap₂, refl, sym}
@@ -147,8 +147,8 @@ module _ {P : Type 0} (form : Form P) where
   held_length (f ∷ fs) =
       omega (
         arith,
-        length_append (held form fs) (frame_row form f ++ rows form f.done),
-        length_append (frame_row form f) (rows form f.done),
+        length-append (held form fs) (frame_row form f ++ rows form f.done),
+        length-append (frame_row form f) (rows form f.done),
         held_length fs,
         row_length (row_of form f.sort).letter (slots_of f.values) (beside f.done (node f.sort [] end end)),
         rows_length form f.done,
@@ -431,7 +431,7 @@ module _ {P : Type 0} (form : Form P) (text : List ℕ) where
         let five : length R ≡ 5 = row_length (row_of form f.sort).letter (slots_of f.values) (beside f.done (node f.sort [] end end)) in
         let i : 5 * (entry / 2048) + 3 + k ≡ length A + (3 + k) = omega (arith, own_is, held_length form w.frames) in
         let vv : v ≡ 1 + (count_of f.done + (1 + count_of w.below)) = omega (arith, own_is, count_is) in
-        take_set_lt (5 * count) nodes (5 * (entry / 2048) + 3 + k) (pos v) (omega (arith, own_is, count_is, third_is, one))
+        take-set-lt (5 * count) nodes (5 * (entry / 2048) + 3 + k) (pos v) (omega (arith, own_is, count_is, third_is, one))
         ∙ ap₂ (λ (l : List ℤ) (j : ℕ). set l j (pos v)) (c.holds ∙ append_assoc A (R ++ S) X ∙ ap (λ (l : List ℤ). A ++ l) (append_assoc R S X)) i
         ∙ set_behind A (R ++ (S ++ X)) (3 + k) (pos v)
         ∙ ap (λ (l : List ℤ). A ++ l) (set-append_left R (S ++ X) (3 + k) (pos v) (omega (arith, five, third_is, one))

@@ -1,6 +1,6 @@
 -- Laws of what was opened as one number.
 use Prim.Native.Nat.{◌%◌, ◌*◌, ◌+◌, ◌-◌, ◌/◌, ◌<◌, ◌≤◌, ℕ}
-use borrow.Author.Tests.{le_leb, lt-leb}
+use borrow.Author.Tests.{le-leb, lt-leb}
 use mathlib.Core.Path.{◌≡◌, refl}
 use native.Mathlib.Omega.{arith}
 use Rattle.text.specs.Letters.{form_of}
@@ -14,7 +14,7 @@ use Rattle.text.specs.declared.whole.Row.TheVariants.{Open, Shut}
 
 pub open_of : (r : ℕ) → 64 ≤ r → row_of r ≡ Open (r / 64 - 1) (r % 64)
 unfolding row_of
-open_of r h = rw (le_leb 64 r h) refl
+open_of r h = rw (le-leb 64 r h) refl
 
 pub shut_of : (r : ℕ) → r < 64 → row_of r ≡ Shut (refusal_for r)
 unfolding row_of
@@ -25,7 +25,7 @@ unfolding row_of
 open_number next kids h =
     let m : ((next + 1) * 64 + kids) % 64 ≡ kids = omega arith in
     let d : ((next + 1) * 64 + kids) / 64 - 1 ≡ next = omega arith in
-    rw (le_leb 64 ((next + 1) * 64 + kids) (omega arith), m, d) refl
+    rw (le-leb 64 ((next + 1) * 64 + kids) (omega arith), m, d) refl
 
 pub shut_number : (k : Refusal) → row_of (number_of k) ≡ Shut k
 unfolding row_of refusal_for

@@ -4,7 +4,7 @@ use borrow.Author.Tests.{eq-eqb, ne_eqb}
 use lib.Dec.{eqb}
 use lib.IntN.{pos, ℤ}
 use lib.ListN.{drop, drop_of_length-le, length, set, take}
-use lib.Seq.{length-take-le, sets, sets-eq, take_set_lt, take-take}
+use lib.Seq.{length-take-le, sets, sets-eq, take-set-lt, take-take}
 use mathlib.Core.Bool.{Bool, cond, false, true}
 use mathlib.Core.List.{List, [], ◌++◌, ◌∷◌, append-nil}
 use mathlib.Core.Path.{◌∙◌, ◌≡◌, ap, refl, sym}
@@ -22,7 +22,7 @@ take_sets n l i [] h = refl
 take_sets n l i (v ∷ vs) h =
     let k : suc i + length vs ≤ n = omega arith in
     let j : i < n = omega arith in
-    take_sets n (set l i v) (suc i) vs k ∙ ap (λ (r : List ℤ). sets r (suc i) vs) (take_set_lt n l i v j)
+    take_sets n (set l i v) (suc i) vs k ∙ ap (λ (r : List ℤ). sets r (suc i) vs) (take-set-lt n l i v j)
 
 -- row number count, and all before it
 pub row_behind : (old row : List ℤ) (count : ℕ) → length row ≡ 5 → 5 * count + 5 ≤ length old → take (5 * (count + 1)) (sets old (5 * count) row) ≡ take (5 * count) old ++ row

@@ -1,6 +1,6 @@
 -- Laws of a whole text.
 use Prim.Native.Nat.{◌<◌, ◌≤◌, ℕ}
-use borrow.Author.Tests.{le_leb, lt-leb}
+use borrow.Author.Tests.{le-leb, lt-leb}
 use lib.IntN.{ℤ}
 use lib.ListN.{length}
 use mathlib.Core.List.{List}
@@ -23,7 +23,7 @@ module _ {P : Type 0} (form : Form P) (text : List ℕ) where
   module _ (h : length text ≤ form.bytes) where
     from_start : text_as_read form text ≡ to_the_end form (whole_text form text)
     unfolding text_as_read
-    from_start = rw (le_leb (length text) form.bytes h, at_start text) refl
+    from_start = rw (le-leb (length text) form.bytes h, at_start text) refl
 
     pub text_refused : (n : ℕ) → whole_text form text ≡ refused n → text_as_read form text ≡ refused n
     text_refused n r = from_start ∙ ap (to_the_end form) r

@@ -1,7 +1,7 @@
 -- Laws of the loop over a text: what is known when a row was opened, and when the next one is to be read.
 use Prim.Native.Nat.{◌%◌, ◌*◌, ◌+◌, ◌-◌, ◌/◌, ◌<◌, ◌≤◌, ℕ}
 use lib.IntN.{pos, ℤ}
-use lib.ListN.{get_or, length, length_set, set, take}
+use lib.ListN.{get_or, length, length-set, set, take}
 use lib.Seq.{length-sets}
 use mathlib.Core.List.{List, []}
 use mathlib.Core.Path.{◌∙◌, ◌≡◌, ap, refl, subst, sym}
@@ -128,7 +128,7 @@ module _ {P : Type 0} (form : Form P) (text : List ℕ) where
 
         module _ (new : List ℤ) (e : new ≡ linked) (places : length stack ≡ 32) where
           linked_size : Roomy text new
-          linked_size = as_roomy text nodes new (ap length e ∙ length_set nodes _ _) row_size
+          linked_size = as_roomy text nodes new (ap length e ∙ length-set nodes _ _) row_size
 
           pub ready_last : entry % 16 < 4 → Ready new stack next (entry % 4) (count + 1) (entry / 32 % 64) (waiting - 1)
           ready_last h = record {
@@ -155,7 +155,7 @@ module _ {P : Type 0} (form : Form P) (text : List ℕ) where
             size = linked_size;
             paced = row_paced;
             capital = o.capital;
-            places = length_set stack (waiting - 1) v ∙ places;
+            places = length-set stack (waiting - 1) v ∙ places;
           }
 
     -- a node with children
@@ -187,7 +187,7 @@ module _ {P : Type 0} (form : Form P) (text : List ℕ) where
         size = row_size;
         paced = row_paced;
         capital = o.capital;
-        places = length_set stack waiting v ∙ places;
+        places = length-set stack waiting v ∙ places;
       }
 
   -- the same under other names

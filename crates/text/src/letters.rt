@@ -5,7 +5,7 @@ ghost use Rattle.text.specs.Letters.{BareIs, form_of, ShapeIs};
 
 use fields::field::{DELAY, DIVISOR, FIGURE, FROM_NODE, LABEL, MONTH, NONE, PARTY};
 
-#[derive(Drop)]
+#[derive(Clone, Copy)]
 pub enum TextForm {
     Plan,
     Payoff,
@@ -19,7 +19,7 @@ pub const AMOUNT: u8 = 2;
 pub const TEST: u8 = 3;
 
 // A letter's kind (NONE: no letter), the classes of its fields and the kinds of its children.
-#[derive(Drop)]
+#[derive(Clone, Copy)]
 pub struct Shape {
     pub kind: u8,
     pub first: u8,

@@ -18,7 +18,7 @@ mod whole;
 use letters::TextForm;
 use whole::{Read, read_rows};
 
-#[derive(Drop)]
+#[derive(Clone, Copy)]
 pub enum Refusal {
     TooLong,
     NotOfForm,
@@ -59,7 +59,7 @@ pub fn number_of(refusal: Refusal) -> u8
 }
 
 // The number of nodes that were read, or the refusal.
-#[derive(Drop)]
+#[derive(Clone, Copy)]
 pub enum Reading {
     Nodes(usize),
     Refused(Refusal),

@@ -12,7 +12,7 @@ use fields::slots::{
 };
 
 // The byte behind a node that was opened and the kinds of its children in base 4, the first lowest; or another node.
-#[derive(Drop)]
+#[derive(Clone, Copy)]
 pub enum Quick {
     Opened { next: usize, kids: u8 },
     Other,

@@ -17,14 +17,14 @@ use fields::slots::{Slots, read_fields};
 pub const MAX_NODES: usize = 512;
 
 // A field of a single byte.
-#[derive(Drop)]
+#[derive(Clone, Copy)]
 pub enum Sole {
     Byte(u8),
     Other,
 }
 
 // A node's letter and fields, the byte behind them, and the kinds of its children.
-#[derive(Drop)]
+#[derive(Clone, Copy)]
 pub struct Head {
     pub letter: u8,
     pub a: i64,
@@ -37,7 +37,7 @@ pub struct Head {
     pub kid3: u8,
 }
 
-#[derive(Drop)]
+#[derive(Clone, Copy)]
 pub enum Opened {
     Node(Head),
     Closed(Refusal),

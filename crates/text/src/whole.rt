@@ -16,14 +16,14 @@ use fields::field::NONE;
 const MAX_DEPTH: usize = 32;
 
 // The byte behind a node that was opened and the kinds of its children in base 4, the first lowest; or the refusal.
-#[derive(Drop)]
+#[derive(Clone, Copy)]
 pub enum Row {
     Open { next: usize, kids: u8 },
     Shut(Refusal),
 }
 
 // The byte behind what was read, and the number of nodes.
-#[derive(Drop)]
+#[derive(Clone, Copy)]
 pub enum Read {
     Done { next: usize, count: usize },
     Stopped(Refusal),

@@ -1,6 +1,6 @@
 -- Numbers put into `answer`, place by place, and an answer's numbers.
 use Prim.Native.Nat.{◌<◌, ◌≤◌, ◌^◌, ℕ}
-use borrow.Author.Tests.{le_leb, lt-leb}
+use borrow.Author.Tests.{le-leb, lt-leb}
 use lib.Dec.{T}
 use lib.IntN.{nat_abs, negsuc, pos, ℤ}
 use lib.ListN.{length, set}
@@ -21,13 +21,13 @@ too_short xs answer h = rw (lt-leb (length xs) (length answer) h)
 pub one_put : (x : ℤ) (answer : List ℤ) → 1 ≤ length answer → (pos 0, set answer 0 x) ≡ put (x ∷ []) answer
 unfolding put
 one_put x [] h = absurd (omega (arith, h))
-one_put x (a ∷ answer) h = rw (le_leb 1 (length (a ∷ answer)) h)
+one_put x (a ∷ answer) h = rw (le-leb 1 (length (a ∷ answer)) h)
 
 pub two_put : (x y : ℤ) (answer : List ℤ) → 2 ≤ length answer → (pos 0, set (set answer 0 x) 1 y) ≡ put (x ∷ y ∷ []) answer
 unfolding put
 two_put x y [] h = absurd (omega (arith, h))
 two_put x y (a ∷ []) h = absurd (omega (arith, h))
-two_put x y (a ∷ b ∷ answer) h = rw (le_leb 2 (length (a ∷ b ∷ answer)) h)
+two_put x y (a ∷ b ∷ answer) h = rw (le-leb 2 (length (a ∷ b ∷ answer)) h)
 
 -- a number that is not below zero
 pub whole : (z : ℤ) → T (non_neg z) → z ≡ pos (nat_abs z)

@@ -13,6 +13,7 @@ use Rattle.amounts.proofs.FourWaits.{first_of_four, months_left, none_of_four}
 use Rattle.amounts.proofs.Waiting.{Later, later_is, not_order}
 use Rattle.amounts.specs.FourMonths.{first_that_holds, held_in}
 use Rattle.amounts.specs.declared.four.Held as four
+use Rattle.checked.specs.Ranges.{FourWaited}
 use Rattle.integers.proofs.Locals.{rd}
 use Rattle.integers.proofs.Tests.{lt_false, lt_true}
 use Rattle.integers.specs.Bounded.{Small}
@@ -63,8 +64,8 @@ module _ (t : ℕ → Answer Bool) (first d last : ℤ) (h : WaitsIn first d) (e
     before : nat_of next ≤ nat_of last
     before = not_order last next end.known after.known (rw (to_z-of_z fl, to_z-of_z fn) at el)
 
-    pub four_within : (k : ℕ) → k < 4 → nat_of month + k ≤ nat_of first + nat_of d
-    four_within k l = omega (arith, before, after.is, end.is)
+    pub four_waited : FourWaited month
+    four_waited = record { known = w.known; within = omega (arith, before, after.is, end.is, h.within) }
 
     pub falls : nat_of last - nat_of next < nat_of last - nat_of month
     falls = omega (arith, before, after.is)

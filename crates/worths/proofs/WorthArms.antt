@@ -31,7 +31,7 @@ use Rattle.worths.specs.Leaf.{leaf_in}
 use Rattle.worths.specs.declared.answers.Worth.{Worth}
 
 -- no month of the table lies before month 0
-pub from_zero : (f : ℤ) (factors : List ℤ) (m sign : ℤ) → leaf_in f factors (pos 0) m sign ≡ cond (between (pos 0) f m) (in_range max_value (get_or factors (nat_abs m) (pos 0) *ℤ sign)) (refused 11)
+from_zero : (f : ℤ) (factors : List ℤ) (m sign : ℤ) → leaf_in f factors (pos 0) m sign ≡ cond (between (pos 0) f m) (in_range max_value (get_or factors (nat_abs m) (pos 0) *ℤ sign)) (refused 11)
 unfolding leaf_in
 from_zero f factors (pos n) sign = rw (le-ltb n 0 (omega arith)) refl
 from_zero f factors (negsuc n) sign = refl
@@ -41,7 +41,7 @@ module _ (h f : ℤ) (factors bounds values : List ℤ) (p q : ℤ) where
   table = table_of h f factors bounds values
 
   -- an amount doesn't look at the factors
-  pub same_value : (a : Amount ℤ) (w : ℕ) → value_found h f bounds values a w ≡ checked_value (lookup_of table) (readable table) max_amount a w
+  same_value : (a : Amount ℤ) (w : ℕ) → value_found h f bounds values a w ≡ checked_value (lookup_of table) (readable table) max_amount a w
   unfolding value_at
   same_value a w = refl
 

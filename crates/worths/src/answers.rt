@@ -11,7 +11,7 @@ use checked::answers::{Fault, Valued};
 use integers::{BoundedValue, Millionths};
 use text::Refusal;
 
-#[derive(Drop)]
+#[derive(Clone, Copy)]
 pub enum Worth {
     Value(Millionths),
     Refused(Refusal),

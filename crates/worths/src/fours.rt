@@ -1,37 +1,61 @@
-// Amounts and tests of a payoff in four months in a row, worked out without checks: each node is looked at once for the four.
-ghost use Rattle.amounts.specs.FourMonths.{FineFour, FineFourTest, FourAre, HeldAre};
-ghost use Rattle.amounts.specs.Placed.{placed_amount, placed_test};
-ghost use Rattle.checked.specs.Ranges.{Near};
+// Amounts and tests with some months waited, in four months in a row: each node is looked at once for the four. Not sure where a month
+// is refused, and then each month is worked out by itself.
+ghost use Rattle.std.specs.Prelude.{◌+◌};
+ghost use Rattle.checked.specs.Checked.{test_in, value_found};
+ghost use Rattle.checked.specs.FourMonths.{SureFour, SureTests};
+ghost use Rattle.checked.specs.Ranges.{FourWaited, Near, Readable};
 ghost use Rattle.language.specs.Text.Form.{fields_of_amount, fields_of_test};
 ghost use Rattle.nodes.specs.Found.{amount_at, offset_of, test_at};
 ghost use Rattle.nodes.specs.Stands.{AmountStands, TestStands};
 ghost use Rattle.nodes.specs.Table.{nat_of};
-ghost use Rattle.worths.specs.Spread.{BaseIn, spread};
 
-use crate::four_rows;
-use amounts::four;
-use amounts::four::{Four, Held};
-use integers::{Month, Pence};
+use amounts::four::Held;
+use checked::four;
+use checked::four::{FourTests, FourValues};
+use integers::Month;
 use nodes::{AmountLetter, TestLetter};
 
-// The amount at a node: a number or an index without a call.
+// An `N` or an `O`; of any other letter nothing is said. Both here, so that `operands` is small.
+fn leaves(
+    nodes: &&[i64],
+    values: &&[i64],
+    bounds: &&[i64],
+    h: Month,
+    f: Month,
+    waited: Month,
+    at: usize,
+    left: usize,
+) -> FourValues
+    requires { Readable h.0 f.0 bounds.now.now values.now.now × FourWaited waited.0 × AmountStands left nodes.now.now at × fields_of_amount Near (amount_at offset_of left nodes.now.now at) }
+    ensures { SureFour result (λ k. value_found h.0 f.0 bounds.now.now values.now.now (amount_at offset_of left nodes.now.now at) (nat_of waited.0 + k)) }
+{
+    let x = nodes::slot(nodes, at, 0);
+    match x {
+        78 => four::number(nodes, at),
+        79 => four::reading(nodes, values, bounds, h, f, waited, at),
+        _ => four::unsure(),
+    }
+}
+
+// The amount at a node: a number or an index without a call. Small, so that the compiler puts it in each of its places.
 #[cycle(amounts_operands_tests)]
 pub fn operands(
     nodes: &&[i64],
     values: &&[i64],
-    base: Month,
-    width: usize,
+    bounds: &&[i64],
+    h: Month,
+    f: Month,
+    waited: Month,
     at: usize,
     left: usize,
-) -> Four
-    requires { BaseIn base.0 width × AmountStands left nodes.now.now at × fields_of_amount Near (amount_at offset_of left nodes.now.now at) × FineFour values.now.now (nat_of base.0) (placed_amount (spread width) (amount_at offset_of left nodes.now.now at)) }
-    ensures { FourAre values.now.now (nat_of base.0) (placed_amount (spread width) (amount_at offset_of left nodes.now.now at)) result }
+) -> FourValues
+    requires { Readable h.0 f.0 bounds.now.now values.now.now × FourWaited waited.0 × AmountStands left nodes.now.now at × fields_of_amount Near (amount_at offset_of left nodes.now.now at) }
+    ensures { SureFour result (λ k. value_found h.0 f.0 bounds.now.now values.now.now (amount_at offset_of left nodes.now.now at) (nat_of waited.0 + k)) }
 {
     let x = nodes::slot(nodes, at, 0);
     match x {
-        78 => amounts::four_rows::number(nodes, at),
-        79 => four_rows::reading(nodes, values, base, width, at),
-        _ => amounts(nodes, values, base, width, at, left),
+        78 | 79 => leaves(nodes, values, bounds, h, f, waited, at, left),
+        _ => amounts(nodes, values, bounds, h, f, waited, at, left),
     }
 }
 
@@ -40,84 +64,91 @@ pub fn operands(
 pub fn amounts(
     nodes: &&[i64],
     values: &&[i64],
-    base: Month,
-    width: usize,
+    bounds: &&[i64],
+    h: Month,
+    f: Month,
+    waited: Month,
     at: usize,
     left: usize,
-) -> Four
-    requires { BaseIn base.0 width × AmountStands left nodes.now.now at × fields_of_amount Near (amount_at offset_of left nodes.now.now at) × FineFour values.now.now (nat_of base.0) (placed_amount (spread width) (amount_at offset_of left nodes.now.now at)) }
-    ensures { FourAre values.now.now (nat_of base.0) (placed_amount (spread width) (amount_at offset_of left nodes.now.now at)) result }
+) -> FourValues
+    requires { Readable h.0 f.0 bounds.now.now values.now.now × FourWaited waited.0 × AmountStands left nodes.now.now at × fields_of_amount Near (amount_at offset_of left nodes.now.now at) }
+    ensures { SureFour result (λ k. value_found h.0 f.0 bounds.now.now values.now.now (amount_at offset_of left nodes.now.now at) (nat_of waited.0 + k)) }
 {
     let letter = nodes::amount_letter(nodes::slot(nodes, at, 0));
     match letter {
-        AmountLetter::Number => amounts::four_rows::number(nodes, at),
-        AmountLetter::Index => four_rows::reading(nodes, values, base, width, at),
+        AmountLetter::Number => four::number(nodes, at),
+        AmountLetter::Index => four::reading(nodes, values, bounds, h, f, waited, at),
         AmountLetter::Sum => {
-            let x = operands(nodes, values, base, width, at + 1, left - 1);
+            let x = operands(nodes, values, bounds, h, f, waited, at + 1, left - 1);
             let y = operands(
                 nodes,
                 values,
-                base,
-                width,
+                bounds,
+                h,
+                f,
+                waited,
                 nodes::link(nodes, at, 3),
                 left - 1,
             );
-            four::plus(x, y)
+            four::sum_of(x, y)
         }
         AmountLetter::Difference => {
-            let x = operands(nodes, values, base, width, at + 1, left - 1);
+            let x = operands(nodes, values, bounds, h, f, waited, at + 1, left - 1);
             let y = operands(
                 nodes,
                 values,
-                base,
-                width,
+                bounds,
+                h,
+                f,
+                waited,
                 nodes::link(nodes, at, 3),
                 left - 1,
             );
-            four::minus(x, y)
+            four::difference_of(x, y)
         }
         AmountLetter::Product => {
-            let x = operands(nodes, values, base, width, at + 1, left - 1);
+            let x = operands(nodes, values, bounds, h, f, waited, at + 1, left - 1);
             let y = operands(
                 nodes,
                 values,
-                base,
-                width,
+                bounds,
+                h,
+                f,
+                waited,
                 nodes::link(nodes, at, 3),
                 left - 1,
             );
-            four::times(x, y)
+            four::product_of(x, y)
         }
         AmountLetter::Quotient => {
-            let x = operands(nodes, values, base, width, at + 1, left - 1);
-            amounts::four_rows::over(nodes, at, x)
+            let x = operands(nodes, values, bounds, h, f, waited, at + 1, left - 1);
+            four::over(nodes, at, x)
         }
         AmountLetter::Choose => {
-            let t = tests(nodes, values, base, width, at + 1, left - 1);
+            let t = tests(nodes, values, bounds, h, f, waited, at + 1, left - 1);
             let x = operands(
                 nodes,
                 values,
-                base,
-                width,
+                bounds,
+                h,
+                f,
+                waited,
                 nodes::link(nodes, at, 3),
                 left - 1,
             );
             let y = operands(
                 nodes,
                 values,
-                base,
-                width,
+                bounds,
+                h,
+                f,
+                waited,
                 nodes::link(nodes, at, 4),
                 left - 1,
             );
             four::chosen(t, x, y)
         }
-        AmountLetter::NoAmount => Four {
-            a: Pence(0),
-            b: Pence(0),
-            c: Pence(0),
-            d: Pence(0),
-        },
+        AmountLetter::NoAmount => four::unsure(),
     }
 }
 
@@ -126,73 +157,86 @@ pub fn amounts(
 pub fn tests(
     nodes: &&[i64],
     values: &&[i64],
-    base: Month,
-    width: usize,
+    bounds: &&[i64],
+    h: Month,
+    f: Month,
+    waited: Month,
     at: usize,
     left: usize,
-) -> Held
-    requires { BaseIn base.0 width × TestStands left nodes.now.now at × fields_of_test Near (test_at offset_of left nodes.now.now at) × FineFourTest values.now.now (nat_of base.0) (placed_test (spread width) (test_at offset_of left nodes.now.now at)) }
-    ensures { HeldAre values.now.now (nat_of base.0) (placed_test (spread width) (test_at offset_of left nodes.now.now at)) result }
+) -> FourTests
+    requires { Readable h.0 f.0 bounds.now.now values.now.now × FourWaited waited.0 × TestStands left nodes.now.now at × fields_of_test Near (test_at offset_of left nodes.now.now at) }
+    ensures { SureTests result (λ k. test_in h.0 f.0 bounds.now.now values.now.now (test_at offset_of left nodes.now.now at) (nat_of waited.0 + k)) }
 {
     let letter = nodes::test_letter(nodes::slot(nodes, at, 0));
     match letter {
         TestLetter::Less => {
-            let x = operands(nodes, values, base, width, at + 1, left - 1);
+            let x = operands(nodes, values, bounds, h, f, waited, at + 1, left - 1);
             let y = operands(
                 nodes,
                 values,
-                base,
-                width,
+                bounds,
+                h,
+                f,
+                waited,
                 nodes::link(nodes, at, 3),
                 left - 1,
             );
-            four::less(x, y)
+            four::less_than(x, y)
         }
         TestLetter::Equal => {
-            let x = operands(nodes, values, base, width, at + 1, left - 1);
+            let x = operands(nodes, values, bounds, h, f, waited, at + 1, left - 1);
             let y = operands(
                 nodes,
                 values,
-                base,
-                width,
+                bounds,
+                h,
+                f,
+                waited,
                 nodes::link(nodes, at, 3),
                 left - 1,
             );
-            four::equal(x, y)
+            four::equal_to(x, y)
         }
         TestLetter::Conjunction => {
-            let x = tests(nodes, values, base, width, at + 1, left - 1);
+            let x = tests(nodes, values, bounds, h, f, waited, at + 1, left - 1);
             let y = tests(
                 nodes,
                 values,
-                base,
-                width,
+                bounds,
+                h,
+                f,
+                waited,
                 nodes::link(nodes, at, 3),
                 left - 1,
             );
-            four::both(x, y)
+            four::both_hold(x, y)
         }
         TestLetter::Disjunction => {
-            let x = tests(nodes, values, base, width, at + 1, left - 1);
+            let x = tests(nodes, values, bounds, h, f, waited, at + 1, left - 1);
             let y = tests(
                 nodes,
                 values,
-                base,
-                width,
+                bounds,
+                h,
+                f,
+                waited,
                 nodes::link(nodes, at, 3),
                 left - 1,
             );
-            four::either(x, y)
+            four::one_holds(x, y)
         }
         TestLetter::Negation => {
-            let x = tests(nodes, values, base, width, at + 1, left - 1);
+            let x = tests(nodes, values, bounds, h, f, waited, at + 1, left - 1);
             four::opposite(x)
         }
-        TestLetter::NoTest => Held {
-            a: false,
-            b: false,
-            c: false,
-            d: false,
+        TestLetter::NoTest => FourTests {
+            all: false,
+            held: Held {
+                a: false,
+                b: false,
+                c: false,
+                d: false,
+            },
         },
     }
 }

@@ -1,8 +1,6 @@
 // What a payoff is worth, with refusals 11 and 14 as evaluation meets them.
 pub mod answers;
-pub mod certain;
 pub mod coded;
-pub mod four_rows;
 pub mod fours;
 pub mod leaf;
 pub mod payoffs;

@@ -108,17 +108,7 @@ pub fn payoff_code(
         }
         PayoffLetter::Await => {
             let d = pays::rows::delay(nodes, at);
-            let w = wait::wait_for(
-                nodes,
-                values,
-                bounds,
-                h,
-                f,
-                waited,
-                d,
-                at + 1,
-                nodes::link(nodes, at, 3),
-            );
+            let w = wait::wait_for(nodes, values, bounds, h, f, waited, d, at + 1, 512);
             match w {
                 Wait::Held(k) => payoff_code(
                     nodes,

@@ -2,7 +2,7 @@
 use Prim.Native.Nat.{◌%◌, ◌+◌, ◌/◌, ◌<◌, ◌^◌, ◌≤◌, suc, zero, ℕ}
 use borrow.Author.Tests.{le-ltb, lt-ltb}
 use lib.Dec.{ltb}
-use lib.ListN.{length, length_append}
+use lib.ListN.{length, length-append}
 use mathlib.Core.Bool.{Bool, cond, false, true}
 use mathlib.Core.List.{List, [], ◌++◌, ◌∷◌}
 use mathlib.Core.Path.{◌∙◌, ◌≡◌, ap, sym}
@@ -47,7 +47,7 @@ digits_few (suc k) n = by (ltb n 10) (digits_few k (n / 10))
   where
     by : (q : Bool) → length (digits_of k (n / 10)) ≤ k → length (cond q ((48 + n) ∷ []) (digits_of k (n / 10) ++ ((48 + n % 10) ∷ []))) ≤ suc k
     by true h = omega arith
-    by false h = omega (arith, length_append (digits_of k (n / 10)) ((48 + n % 10) ∷ []))
+    by false h = omega (arith, length-append (digits_of k (n / 10)) ((48 + n % 10) ∷ []))
 
 pub digits_most : (n : ℕ) → length (print_nat n) ≤ 20
 unfolding print_nat

@@ -1,7 +1,7 @@
 -- Fields of a row: a month as a number and settings, and how long a field can be.
 use Prim.Native.Nat.{◌+◌, ◌≤◌, suc, ℕ}
 use lib.IntN.{nat_abs, negsuc, pos, ℤ}
-use lib.ListN.{length, length_append}
+use lib.ListN.{length, length-append}
 use mathlib.Core.List.{◌++◌, ◌∷◌, append-nil}
 use mathlib.Core.Path.{◌∙◌, ◌≡◌, ap, refl}
 use native.Mathlib.Omega.{arith}
@@ -37,7 +37,7 @@ month_most a b =
     omega (
       arith,
       ap length (month_is a b (nat_abs b) refl),
-      length_append (print_number a) (settings_text (nat_abs b)),
+      length-append (print_number a) (settings_text (nat_abs b)),
       number_most a,
       settings_most (nat_abs b),
     )
@@ -53,4 +53,4 @@ pub month_small : (a b : ℤ) (r : ℕ) → r ≡ length (field_text month a b) 
 month_small a b r e = omega (arith, month_most a b)
 
 pub month_length : (a b : ℤ) (m x y : ℕ) → m ≡ nat_abs b → x ≡ length (print_number a) → y ≡ length (settings_text m) → x + y ≡ length (field_text month a b)
-month_length a b m x y q e f = omega (arith, ap length (month_is a b m q), length_append (print_number a) (settings_text m))
+month_length a b m x y q e f = omega (arith, ap length (month_is a b m q), length-append (print_number a) (settings_text m))

@@ -1,6 +1,6 @@
 -- A row's letter as a byte, and which fields a row with that letter has.
 use Prim.Native.Nat.{◌<◌, ◌≤◌, ℕ}
-use borrow.Author.Tests.{eqb-true, le_leb, lt-leb, ltb-false, ltb-true}
+use borrow.Author.Tests.{eqb-true, le-leb, lt-leb, ltb-false, ltb-true}
 use lib.Dec.{T, eqb}
 use lib.IntN.{nat_abs, negsuc, pos, ℤ}
 use lib.Signed.{lt_z, non_neg}
@@ -28,11 +28,11 @@ below (pos n) e = let h : n < 0 = ltb-true n 0 e in absurd (omega arith)
 below (negsuc n) e = refl
 
 above : (z : ℤ) → lt_z (pos 255) z ≡ true → 63 ≡ byte_of_letter z
-above (pos n) e = rw (lt-leb n 255 (ltb-true 255 n e), le_leb 0 n (omega arith))
+above (pos n) e = rw (lt-leb n 255 (ltb-true 255 n e), le-leb 0 n (omega arith))
 above (negsuc n) e = absurd (true≢false (sym e))
 
 within : (z : ℤ) → lt_z z (pos 0) ≡ false → lt_z (pos 255) z ≡ false → (nat_abs z ≡ byte_of_letter z) × (nat_abs z ≤ 255) × T (non_neg z)
-within (pos n) e f = (rw (le_leb n 255 (ltb-false 255 n f), le_leb 0 n (omega arith)), ltb-false 255 n f, tt)
+within (pos n) e f = (rw (le-leb n 255 (ltb-false 255 n f), le-leb 0 n (omega arith)), ltb-false 255 n f, tt)
 within (negsuc n) e f = absurd (true≢false e)
 
 -- the same of what a local reads as

@@ -1,6 +1,6 @@
 -- Runs of written bytes: one after the other, how much room is left, and what one store does.
 use Prim.Native.Nat.{◌+◌, ◌<◌, ◌≤◌, suc, ℕ}
-use lib.ListN.{length, length_append, length_set, set}
+use lib.ListN.{length, length-append, length-set, set}
 use lib.Seq.{length-sets, set_comm, sets}
 use mathlib.Core.List.{List, [], ◌++◌, ◌∷◌}
 use mathlib.Core.Path.{◌∙◌, ◌≡◌, ap, refl, sym}
@@ -34,7 +34,7 @@ pub then : {a b c : List ℕ} {i j k : ℕ} {xs ys : List ℕ} → Put a b i j x
 then {a} {b} {c} {i} {j} {k} {xs} {ys} p q =
     record {
       is = q.is ∙ rw (p.is, p.ends) (sym (sets_append a i xs ys));
-      ends = omega (arith, p.ends, q.ends, length_append xs ys);
+      ends = omega (arith, p.ends, q.ends, length-append xs ys);
     }
 
 -- the same bytes, said otherwise
@@ -50,13 +50,13 @@ pub room_as : (i n : ℕ) (xs ys : List ℕ) → xs ≡ ys → i + length xs ≤
 room_as i n xs ys e h = omega (arith, ap length e)
 
 pub room_first : (i n : ℕ) (xs ys : List ℕ) → i + length (xs ++ ys) ≤ n → i + length xs ≤ n
-room_first i n xs ys h = omega (arith, length_append xs ys)
+room_first i n xs ys h = omega (arith, length-append xs ys)
 
 pub room_next : {a b : List ℕ} {i j : ℕ} {xs : List ℕ} (ys : List ℕ) → i + length (xs ++ ys) ≤ length a → Put a b i j xs → j + length ys ≤ length b
-room_next {a} {b} {i} {j} {xs} ys h p = omega (arith, length_append xs ys, p.ends, kept p)
+room_next {a} {b} {i} {j} {xs} ys h p = omega (arith, length-append xs ys, p.ends, kept p)
 
 pub room_front : (i b : ℕ) (xs a : List ℕ) → i + length (b ∷ xs) ≤ length a → (i < length a) × (i + 1 + length xs ≤ length (set a i b))
-room_front i b xs a h = (omega arith, omega (arith, length_set a i b))
+room_front i b xs a h = (omega arith, omega (arith, length-set a i b))
 
 -- ---- stores
 

@@ -1,7 +1,7 @@
 -- A row's text, part after part, as the code writes it.
 use Prim.Native.Nat.{◌+◌, ℕ}
 use lib.IntN.{pos, ℤ}
-use lib.ListN.{drop, length, length_append}
+use lib.ListN.{drop, length, length-append}
 use lib.Seq.{get_or-drop}
 use mathlib.Core.List.{List, [], ◌++◌, ◌∷◌, append-nil}
 use mathlib.Core.Path.{◌∙◌, ◌≡◌, ap, refl, subst, sym}
@@ -54,10 +54,10 @@ pub long_0 : (t : List ℕ) (b : ℕ) → t ≡ b ∷ [] → 1 ≡ length t
 long_0 t b e = sym (ap length e)
 
 pub long_1 : (t : List ℕ) (b x : ℕ) (p : List ℕ) → x ≡ length p → t ≡ b ∷ ((44 ∷ p) ++ []) → 2 + x ≡ length t
-long_1 t b x p f e = omega (arith, ap length e, length_append p [])
+long_1 t b x p f e = omega (arith, ap length e, length-append p [])
 
 pub long_2 : (t : List ℕ) (b x y : ℕ) (p q : List ℕ) → x ≡ length p → y ≡ length q → t ≡ b ∷ ((44 ∷ p) ++ ((44 ∷ q) ++ [])) → 3 + x + y ≡ length t
-long_2 t b x y p q f g e = omega (arith, ap length e, length_append p (44 ∷ (q ++ [])), length_append q [])
+long_2 t b x y p q f g e = omega (arith, ap length e, length-append p (44 ∷ (q ++ [])), length-append q [])
 
 pub long_3 : (t : List ℕ) (b x y z : ℕ) (p q r : List ℕ) → x ≡ length p → y ≡ length q → z ≡ length r → t ≡ b ∷ ((44 ∷ p) ++ ((44 ∷ q) ++ ((44 ∷ r) ++ []))) → 4 + x + y + z ≡ length t
-long_3 t b x y z p q r f g h e = omega (arith, ap length e, length_append p (44 ∷ (q ++ (44 ∷ (r ++ [])))), length_append q (44 ∷ (r ++ [])), length_append r [])
+long_3 t b x y z p q r f g h e = omega (arith, ap length e, length-append p (44 ∷ (q ++ (44 ∷ (r ++ [])))), length-append q (44 ∷ (r ++ [])), length-append r [])

@@ -1,6 +1,6 @@
 -- The text of a month's settings: setting after setting, from digits in base 32.
 use Prim.Native.Nat.{◌%◌, ◌*◌, ◌+◌, ◌-◌, ◌/◌, ◌<◌, ◌≤◌, suc, zero, ℕ}
-use lib.ListN.{length, length_append, replicate, set}
+use lib.ListN.{length, length-append, replicate, set}
 use mathlib.Core.List.{List, [], ◌++◌, ◌∷◌, append_assoc, append-nil}
 use mathlib.Core.Path.{◌∙◌, ◌≡◌, ap, refl, sym}
 use native.Mathlib.Omega.{arith}
@@ -58,7 +58,7 @@ run_most (suc n) k digits =
     omega (
       arith,
       ap length (run_more n k digits),
-      length_append (copies (digits % 32) k) (run n (suc k) (digits / 32)),
+      length-append (copies (digits % 32) k) (run n (suc k) (digits / 32)),
       copies_length (digits % 32) k,
       run_most n (suc k) (digits / 32),
     )
@@ -91,7 +91,7 @@ summing_on digits sum left k s h = record {
         arith,
         s.all,
         ap length (next_run k left h),
-        length_append (copies (left % 32) k) (run (8 - (k + 1)) (k + 1) (left / 32)),
+        length-append (copies (left % 32) k) (run (8 - (k + 1)) (k + 1) (left / 32)),
         copies_length (left % 32) k,
       );
   most = omega arith;

@@ -1,6 +1,6 @@
 -- A number's digits parted at a power of ten.
 use Prim.Native.Nat.{◌%◌, ◌*◌, ◌+◌, ◌/◌, ◌<◌, ◌^◌, ◌≤◌, ℕ}
-use lib.ListN.{length, length_append}
+use lib.ListN.{length, length-append}
 use mathlib.Core.List.{List, ◌++◌, append_assoc}
 use mathlib.Core.Path.{◌∙◌, ◌≡◌, ap, refl, sym}
 use native.Mathlib.Nat.{div-add-mod, div-div-eq-div-mul, div-le_self, div-lt_iff_lt-mul, le-div_iff_mul-le, mod-eq_of_lt, mod-lt, mul-add-div, mul-add-mod_self_left, mul_assoc, mul-le-mul_left, mul-pos}
@@ -87,10 +87,10 @@ module _ (n : ℕ) where
 
   -- those in front, and two or four
   pub two_more : 100 ≤ n → n ≤ 2 ^ 63 → length (print_nat n) ≡ length (print_nat (n / 100)) + 2
-  two_more l m = ap length (at_two.parts n l m) ∙ length_append (print_nat (n / 100)) (two (n % 100))
+  two_more l m = ap length (at_two.parts n l m) ∙ length-append (print_nat (n / 100)) (two (n % 100))
 
   pub four_more : 10_000 ≤ n → n ≤ 2 ^ 63 → length (print_nat n) ≡ length (print_nat (n / 10_000)) + 4
-  four_more l m = ap length (at_four.parts n l m) ∙ length_append (print_nat (n / 10_000)) (four (n % 10_000))
+  four_more l m = ap length (at_four.parts n l m) ∙ length-append (print_nat (n / 10_000)) (four (n % 10_000))
 
 pub three_digits : (n : ℕ) → 100 ≤ n → n < 1000 → 3 ≡ length (print_nat n)
 three_digits n l h = omega (arith, two_more n l (omega arith), one_digit (n / 100) (omega arith))

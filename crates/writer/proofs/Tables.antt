@@ -1,7 +1,7 @@
 -- Tables made from trees: their text is the trees' text, whatever the links are.
 use Prim.Native.Nat.{◌*◌, ◌+◌, suc, ℕ}
 use lib.IntN.{pos, ℤ}
-use lib.ListN.{drop, get_or, length, length_append, take, take-append-drop}
+use lib.ListN.{drop, get_or, length, length-append, take, take-append-drop}
 use mathlib.Core.List.{List, [], ◌++◌, ◌∷◌, append_assoc}
 use mathlib.Core.Path.{◌∙◌, ◌≡◌, ap, refl, sym}
 use native.Mathlib.Omega.{arith}
@@ -97,7 +97,7 @@ module _ {P : Type 0} where
     unfolding rows_with count_of
     rows_length links end = omega arith
     rows_length links (node l fs c t) =
-        omega (arith, length_append (rows_with links form c) (rows_with links form t), rows_length links c, rows_length links t)
+        omega (arith, length-append (rows_with links form c) (rows_with links form t), rows_length links c, rows_length links t)
 
     pub written_front : (links : Links P) (t : Trees P) → Says t → (nodes : List ℤ) (k : ℕ) → take k nodes ≡ rows_with links form t → written (count_of t) nodes ≡ print_text form t
     written_front links t h nodes k e =

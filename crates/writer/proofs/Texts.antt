@@ -1,7 +1,7 @@
 -- The text of rows, row after row.
 use Prim.Native.Nat.{◌*◌, ◌+◌, ◌-◌, ◌<◌, ◌≤◌, suc, zero, ℕ}
 use lib.IntN.{ℤ}
-use lib.ListN.{drop, length, length_append, set}
+use lib.ListN.{drop, length, length-append, set}
 use lib.Seq.{drop-drop}
 use mathlib.Core.List.{List, [], ◌++◌, ◌∷◌, append_assoc, append-nil}
 use mathlib.Core.Path.{◌∙◌, ◌≡◌, ap, refl, sym}
@@ -85,7 +85,7 @@ counted_none nodes count = record { is = refl; most = omega arith; small = omega
 
 pub counted_more : (nodes : List ℤ) (count sum i r : ℕ) → Counted nodes count sum i → i < count → r ≡ length (row_text (drop (5 * i) nodes)) → r ≤ 900 → Counted nodes count (sum + 1 + r) (i + 1)
 counted_more nodes count sum i r s h e m = record {
-  is = omega (arith, s.is, ap length (behind_more i nodes), length_append (behind 44 (fields_of_rows i nodes)) (44 ∷ row_text (drop (5 * i) nodes)));
+  is = omega (arith, s.is, ap length (behind_more i nodes), length-append (behind 44 (fields_of_rows i nodes)) (44 ∷ row_text (drop (5 * i) nodes)));
   most = omega arith;
   small = omega (arith, s.small);
 }
@@ -108,7 +108,7 @@ text_next (suc i) nodes = text_more (suc i) nodes (omega arith) ∙ sym (append_
 text_longer : (i count : ℕ) (nodes : List ℤ) → i < count → length (written (i + 1) nodes) ≤ length (written count nodes)
 text_longer i count nodes h =
     let e : i + 1 + (count - (i + 1)) ≡ count = omega arith in
-    omega (arith, ap length (ap (λ (k : ℕ). written k nodes) (sym e) ∙ text_split (i + 1) (count - (i + 1)) nodes (omega arith)), length_append (written (i + 1) nodes) (behind 44 (fields_of_rows (count - (i + 1)) (drop (5 * (i + 1)) nodes))))
+    omega (arith, ap length (ap (λ (k : ℕ). written k nodes) (sym e) ∙ text_split (i + 1) (count - (i + 1)) nodes (omega arith)), length-append (written (i + 1) nodes) (behind 44 (fields_of_rows (count - (i + 1)) (drop (5 * (i + 1)) nodes))))
 
 -- row i behind the rows before it and a comma
 module _ (nodes : List ℤ) (count i : ℕ) {old out : List ℕ} {place : ℕ} (h : i < count) (room : length (written count nodes) ≤ length old) (p : Put old out 0 place (written i nodes ++ comma_at i)) where
@@ -126,7 +126,7 @@ module _ (nodes : List ℤ) (count i : ℕ) {old out : List ℕ} {place : ℕ} (
   pub comma_room : place < length out
   comma_room =
       let l : i + 1 < count = omega (arith, n) in
-      omega (arith, text_longer (i + 1) count nodes l, ap length (text_next (i + 1) nodes), length_append (written (i + 1) nodes ++ comma_at (i + 1)) (row_text (drop (5 * (i + 1)) nodes)), length_append (written (i + 1) nodes) (comma_at (i + 1)), ap length comma, p.ends, kept p)
+      omega (arith, text_longer (i + 1) count nodes l, ap length (text_next (i + 1) nodes), length-append (written (i + 1) nodes ++ comma_at (i + 1)) (row_text (drop (5 * (i + 1)) nodes)), length-append (written (i + 1) nodes) (comma_at (i + 1)), ap length comma, p.ends, kept p)
 
   pub comma_put : Put old (set out place 44) 0 (place + 1) (written (i + 1) nodes ++ comma_at (i + 1))
   comma_put = then p (said (sym comma) (one out place 44))

@@ -1,6 +1,6 @@
 -- A whole text in front of a buffer.
 use Prim.Native.Nat.{◌+◌, ◌<◌, ◌≤◌, ℕ}
-use borrow.Author.Tests.{le_leb, lt-leb}
+use borrow.Author.Tests.{le-leb, lt-leb}
 use lib.ListN.{drop, length}
 use lib.Seq.{sets, sets-eq}
 use mathlib.Core.List.{List, ◌++◌}
@@ -12,8 +12,8 @@ use Rattle.writer.specs.Answers.{written_answer}
 use Rattle.writer.specs.Put.{Put}
 use Rattle.writer.specs.declared.Written.TheVariants.{Bytes, NoRoom}
 
-in_front : (text buffer : List ℕ) → length text ≤ length buffer → sets buffer 0 text ≡ text ++ drop (length text) buffer
-in_front text buffer h =
+in-front : (text buffer : List ℕ) → length text ≤ length buffer → sets buffer 0 text ≡ text ++ drop (length text) buffer
+in-front text buffer h =
     let e : 0 + length text ≡ length text = omega arith in
     sets-eq text buffer 0 (omega arith) ∙ ap (λ (k : ℕ). text ++ drop k buffer) e
 
@@ -30,6 +30,6 @@ module _ (text buffer : List ℕ) (need : ℕ) (n : need ≡ length text) where
   unfolding written_answer into_buffer
   whole h out end p =
       let r : length text ≤ length buffer = omega arith in
-      let e = le_leb (length text) (length buffer) r in
+      let e = le-leb (length text) (length buffer) r in
       let s : end ≡ length text = omega (arith, p.ends) in
-      (rw e (p.is ∙ in_front text buffer r), rw (e, s))
+      (rw e (p.is ∙ in-front text buffer r), rw (e, s))

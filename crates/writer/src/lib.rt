@@ -8,7 +8,7 @@ pub mod digits;
 pub mod parts;
 mod rows;
 
-#[derive(Drop)]
+#[derive(Clone, Copy)]
 pub enum Written {
     Bytes(usize),
     NoRoom,

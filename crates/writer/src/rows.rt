@@ -7,7 +7,7 @@ ghost use Rattle.writer.specs.Written.{byte_of_letter, slot};
 use crate::{digits, parts};
 
 // Which fields a row has.
-#[derive(Drop)]
+#[derive(Clone, Copy)]
 pub enum Shape {
     Bare,
     Number,

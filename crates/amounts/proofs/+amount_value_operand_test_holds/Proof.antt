@@ -26,7 +26,7 @@ use Rattle.amounts.proofs.+amount_value_operand_test_holds.Lts-operand as operan
 use Rattle.amounts.proofs.test_holds.Reads as test_holds
 use Rattle.amounts.proofs.test_holds.Kinds as test-holds-kinds
 use Rattle.amounts.proofs.+amount_value_operand_test_holds.Lts-test_holds as test-holds-lts
-use Rattle.amounts.proofs.rows.number.Reads as number_reads
+use Rattle.amounts.proofs.rows.number.Reads as number-reads
 use Rattle.amounts.proofs.rows.over.Reads as over_reads
 use Rattle.amounts.proofs.rows.reading.Reads as reading-reads
 use Rattle.integers.proofs.equal.Reads as equal-reads
@@ -80,8 +80,8 @@ amount_value_calls t = (
   slot-reads.Learnt,
   amount-letter-reads.Asked,
   amount-letter-reads.Learnt,
-  number_reads.Asked,
-  number_reads.Learnt,
+  number-reads.Asked,
+  number-reads.Learnt,
   reading-reads.Asked,
   reading-reads.Learnt,
   operand_below t,
@@ -317,8 +317,8 @@ abbrev operand_calls : ℕ → operand-lts.Claims
 operand_calls t = (
   slot-reads.Asked,
   slot-reads.Learnt,
-  number_reads.Asked,
-  number_reads.Learnt,
+  number-reads.Asked,
+  number-reads.Learnt,
   reading-reads.Asked,
   reading-reads.Learnt,
   amount_value_below t,

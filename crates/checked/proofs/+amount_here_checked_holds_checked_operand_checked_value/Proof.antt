@@ -20,7 +20,7 @@ use Rattle.checked.proofs.+amount_here_checked_holds_checked_operand_checked_val
 use Rattle.checked.proofs.CheckedArms as arms
 use Rattle.nodes.specs.declared.AmountLetter.TheVariants as amount
 use Rattle.nodes.specs.declared.TestLetter.TheVariants as test
-use Rattle.checked.proofs.amount_here.Reads as amount_here
+use Rattle.checked.proofs.amount_here.Reads as amount-here
 use Rattle.checked.proofs.amount_here.Kinds as amount-here-kinds
 use Rattle.checked.proofs.+amount_here_checked_holds_checked_operand_checked_value.Lts-amount_here as amount-here-lts
 use Rattle.checked.proofs.checked_holds.Reads as checked-holds
@@ -46,7 +46,7 @@ use Rattle.checked.proofs.answers.product_of.Reads as product-of-reads
 use Rattle.checked.proofs.answers.sum_of.Reads as sum-of-reads
 use Rattle.checked.proofs.coded.code.Reads as code_Reads
 use Rattle.checked.proofs.coded.valued.Reads as valued-reads
-use Rattle.checked.proofs.rows.number.Reads as number_reads
+use Rattle.checked.proofs.rows.number.Reads as number-reads
 use Rattle.checked.proofs.rows.over.Reads as over_reads
 use Rattle.checked.proofs.rows.reading.Reads as reading-reads
 
@@ -63,14 +63,14 @@ abbrev μ_checked_value : Measures 6 checked-value-kinds.ps ℕ
 μ_checked_value κs a = 3 * a.1.1.1.1.1.1.1.0 + 1
 
 abbrev amount_here_at : ℕ → In 6 amount-here-kinds.ps
-amount_here_at t = and 6 amount-here-kinds.ps (is 6 amount-here-kinds.ps μ_amount_here t) amount_here.Pre
+amount_here_at t = and 6 amount-here-kinds.ps (is 6 amount-here-kinds.ps μ_amount_here t) amount-here.Pre
 
 abbrev amount_here_below : ℕ → In 6 amount-here-kinds.ps
 amount_here_below t = and
     6
     amount-here-kinds.ps
     (falls 6 amount-here-kinds.ps ◌<◌ μ_amount_here t)
-    amount_here.Pre
+    amount-here.Pre
 
 abbrev checked_holds_at : ℕ → In 6 checked-holds-kinds.ps
 checked_holds_at t = and 6 checked-holds-kinds.ps (is 6 checked-holds-kinds.ps μ_checked_holds t) checked-holds.Pre
@@ -107,283 +107,283 @@ checked_value_below t = and
     checked_value.Pre
 
 abbrev amount_here_calls : ℕ → amount-here-lts.Claims
-amount_here_calls t = (slot-reads.Asked, slot-reads.Learnt, amount-letter-reads.Asked, amount-letter-reads.Learnt, number_reads.Asked, number_reads.Learnt, reading-reads.Asked, reading-reads.Learnt, checked_operand_below t, checked-operand.Post, link-reads.Asked, link-reads.Learnt, sum-of-reads.Asked, sum-of-reads.Learnt, difference-of-reads.Asked, difference-of-reads.Learnt, product-of-reads.Asked, product-of-reads.Learnt, over_reads.Asked, over_reads.Learnt, checked_holds_below t, checked-holds.Post)
+amount_here_calls t = (slot-reads.Asked, slot-reads.Learnt, amount-letter-reads.Asked, amount-letter-reads.Learnt, number-reads.Asked, number-reads.Learnt, reading-reads.Asked, reading-reads.Learnt, checked_operand_below t, checked-operand.Post, link-reads.Asked, link-reads.Learnt, sum-of-reads.Asked, sum-of-reads.Learnt, difference-of-reads.Asked, difference-of-reads.Learnt, product-of-reads.Asked, product-of-reads.Learnt, over_reads.Asked, over_reads.Learnt, checked_holds_below t, checked-holds.Post)
 
 -- what is known in the arm of letter l
-amount_here_here : (t : ℕ) (c : amount-here-lts.After-amount-letter (amount_here_calls t) (amount_here_at t) amount_here.Post) (l : AmountLetter) → c.amount-letter.result ≡ l
+amount_here_here : (t : ℕ) (c : amount-here-lts.After-amount-letter (amount_here_calls t) (amount_here_at t) amount-here.Post) (l : AmountLetter) → c.amount-letter.result ≡ l
     → AmountNode c.before.before.args.nodes.now.now c.before.before.args.left c.before.before.args.at l
 amount_here_here t c l e =
     let f : SFits w64 c.before.slot.result = search rules in
     let p = c.before.before.requires.1 in
     amount_node f c.before.slot.ensures p.2 p.3 c.amount-letter.ensures e
 
-amount_here_slot_requires : (t : ℕ) → amount-here-lts.Need-slot-requires (amount_here_calls t) (amount_here_at t) amount_here.Post
+amount_here_slot_requires : (t : ℕ) → amount-here-lts.Need-slot-requires (amount_here_calls t) (amount_here_at t) amount-here.Post
 amount_here_slot_requires t c κs = (amount_inside _ _ _ c.requires.1.2, omega arith)
 
-amount_here_number_requires : (t : ℕ) → amount-here-lts.Need-number-requires (amount_here_calls t) (amount_here_at t) amount_here.Post
+amount_here_number_requires : (t : ℕ) → amount-here-lts.Need-number-requires (amount_here_calls t) (amount_here_at t) amount-here.Post
 unfolding fields_of_amount
 amount_here_number_requires t c κs =
     let n = amount_here_here t c.before.before amount.Number c.enum_told.given.1 in
     (n.inside, n.fields)
 
-amount_here_reading_requires : (t : ℕ) → amount-here-lts.Need-reading-requires (amount_here_calls t) (amount_here_at t) amount_here.Post
+amount_here_reading_requires : (t : ℕ) → amount-here-lts.Need-reading-requires (amount_here_calls t) (amount_here_at t) amount-here.Post
 unfolding fields_of_amount
 amount_here_reading_requires t c κs =
     let s = c.before.before.before.before in
     let n = amount_here_here t c.before.before amount.Index c.enum-told2.given.1 in
     (n.inside, s.requires.1.0, s.requires.1.1, n.fields.1)
 
-amount_here_add_checked_operand : (t : ℕ) → amount-here-lts.Need-overflow-add-checked-operand (amount_here_calls t) (amount_here_at t) amount_here.Post
+amount_here_add_checked_operand : (t : ℕ) → amount-here-lts.Need-overflow-add-checked-operand (amount_here_calls t) (amount_here_at t) amount-here.Post
 amount_here_add_checked_operand t c =
     let n = amount_here_here t c.before.before amount.Sum c.enum-told3.given.1 in
     record { fits = omega (arith, n.inside) }
 
-amount_here_sub_checked_operand : (t : ℕ) → amount-here-lts.Need-overflow-sub-checked-operand (amount_here_calls t) (amount_here_at t) amount_here.Post
+amount_here_sub_checked_operand : (t : ℕ) → amount-here-lts.Need-overflow-sub-checked-operand (amount_here_calls t) (amount_here_at t) amount-here.Post
 amount_here_sub_checked_operand t c =
     let n = amount_here_here t c.before.before amount.Sum c.enum-told3.given.1 in
     omega (arith, n.some)
 
-amount_here_checked_operand_requires : (t : ℕ) → amount-here-lts.Need-checked-operand-requires (amount_here_calls t) (amount_here_at t) amount_here.Post
+amount_here_checked_operand_requires : (t : ℕ) → amount-here-lts.Need-checked-operand-requires (amount_here_calls t) (amount_here_at t) amount-here.Post
 unfolding fields_of_amount
 amount_here_checked_operand_requires t c κs =
     let s = c.before.before.before.before in
     let n = amount_here_here t c.before.before amount.Sum c.enum-told3.given.1 in
     (omega (arith, n.some), (s.requires.1.0, s.requires.1.1, n.stands.0, n.fields.0))
 
-amount_here_link_requires : (t : ℕ) → amount-here-lts.Need-link-requires (amount_here_calls t) (amount_here_at t) amount_here.Post
+amount_here_link_requires : (t : ℕ) → amount-here-lts.Need-link-requires (amount_here_calls t) (amount_here_at t) amount-here.Post
 amount_here_link_requires t c κs =
     let n = amount_here_here t c.before.before.before amount.Sum c.before.enum-told3.given.1 in
     (n.inside, omega arith, n.stands.1.0)
 
-amount_here_sub_checked_operand_2 : (t : ℕ) → amount-here-lts.Need-overflow-sub-checked-operand-2 (amount_here_calls t) (amount_here_at t) amount_here.Post
+amount_here_sub_checked_operand_2 : (t : ℕ) → amount-here-lts.Need-overflow-sub-checked-operand-2 (amount_here_calls t) (amount_here_at t) amount-here.Post
 amount_here_sub_checked_operand_2 t c =
     let n = amount_here_here t c.before.before.before.before amount.Sum c.before.before.enum-told3.given.1 in
     omega (arith, n.some)
 
-amount_here_checked_operand_requires_2 : (t : ℕ) → amount-here-lts.Need-checked-operand-requires-2 (amount_here_calls t) (amount_here_at t) amount_here.Post
+amount_here_checked_operand_requires_2 : (t : ℕ) → amount-here-lts.Need-checked-operand-requires-2 (amount_here_calls t) (amount_here_at t) amount-here.Post
 unfolding fields_of_amount
 amount_here_checked_operand_requires_2 t c κs =
     let s = c.before.before.before.before.before.before in
     let n = amount_here_here t c.before.before.before.before amount.Sum c.before.before.enum-told3.given.1 in
     (omega (arith, n.some), rw c.link.ensures (s.requires.1.0, s.requires.1.1, n.stands.1.1, n.fields.1))
 
-amount_here_sum_of_requires : (t : ℕ) → amount-here-lts.Need-sum-of-requires (amount_here_calls t) (amount_here_at t) amount_here.Post
+amount_here_sum_of_requires : (t : ℕ) → amount-here-lts.Need-sum-of-requires (amount_here_calls t) (amount_here_at t) amount-here.Post
 amount_here_sum_of_requires t c κs =
     let s = c.before.before.before.before.before.before.before in (
       valued_small s.args.h.0 s.args.f.0 s.args.bounds.now.now s.args.values.now.now _ _ c.before.before.checked-operand.result c.before.before.checked-operand.ensures,
       valued_small s.args.h.0 s.args.f.0 s.args.bounds.now.now s.args.values.now.now _ _ c.checked-operand2.result c.checked-operand2.ensures,
     )
 
-amount_here_add_checked_operand_2 : (t : ℕ) → amount-here-lts.Need-overflow-add-checked-operand-2 (amount_here_calls t) (amount_here_at t) amount_here.Post
+amount_here_add_checked_operand_2 : (t : ℕ) → amount-here-lts.Need-overflow-add-checked-operand-2 (amount_here_calls t) (amount_here_at t) amount-here.Post
 amount_here_add_checked_operand_2 t c =
     let n = amount_here_here t c.before.before amount.Difference c.enum-told4.given.1 in
     record { fits = omega (arith, n.inside) }
 
-amount_here_sub_checked_operand_3 : (t : ℕ) → amount-here-lts.Need-overflow-sub-checked-operand-3 (amount_here_calls t) (amount_here_at t) amount_here.Post
+amount_here_sub_checked_operand_3 : (t : ℕ) → amount-here-lts.Need-overflow-sub-checked-operand-3 (amount_here_calls t) (amount_here_at t) amount-here.Post
 amount_here_sub_checked_operand_3 t c =
     let n = amount_here_here t c.before.before amount.Difference c.enum-told4.given.1 in
     omega (arith, n.some)
 
-amount_here_checked_operand_requires_3 : (t : ℕ) → amount-here-lts.Need-checked-operand-requires-3 (amount_here_calls t) (amount_here_at t) amount_here.Post
+amount_here_checked_operand_requires_3 : (t : ℕ) → amount-here-lts.Need-checked-operand-requires-3 (amount_here_calls t) (amount_here_at t) amount-here.Post
 unfolding fields_of_amount
 amount_here_checked_operand_requires_3 t c κs =
     let s = c.before.before.before.before in
     let n = amount_here_here t c.before.before amount.Difference c.enum-told4.given.1 in
     (omega (arith, n.some), (s.requires.1.0, s.requires.1.1, n.stands.0, n.fields.0))
 
-amount_here_link_requires_2 : (t : ℕ) → amount-here-lts.Need-link-requires-2 (amount_here_calls t) (amount_here_at t) amount_here.Post
+amount_here_link_requires_2 : (t : ℕ) → amount-here-lts.Need-link-requires-2 (amount_here_calls t) (amount_here_at t) amount-here.Post
 amount_here_link_requires_2 t c κs =
     let n = amount_here_here t c.before.before.before amount.Difference c.before.enum-told4.given.1 in
     (n.inside, omega arith, n.stands.1.0)
 
-amount_here_sub_checked_operand_4 : (t : ℕ) → amount-here-lts.Need-overflow-sub-checked-operand-4 (amount_here_calls t) (amount_here_at t) amount_here.Post
+amount_here_sub_checked_operand_4 : (t : ℕ) → amount-here-lts.Need-overflow-sub-checked-operand-4 (amount_here_calls t) (amount_here_at t) amount-here.Post
 amount_here_sub_checked_operand_4 t c =
     let n = amount_here_here t c.before.before.before.before amount.Difference c.before.before.enum-told4.given.1 in
     omega (arith, n.some)
 
-amount_here_checked_operand_requires_4 : (t : ℕ) → amount-here-lts.Need-checked-operand-requires-4 (amount_here_calls t) (amount_here_at t) amount_here.Post
+amount_here_checked_operand_requires_4 : (t : ℕ) → amount-here-lts.Need-checked-operand-requires-4 (amount_here_calls t) (amount_here_at t) amount-here.Post
 unfolding fields_of_amount
 amount_here_checked_operand_requires_4 t c κs =
     let s = c.before.before.before.before.before.before in
     let n = amount_here_here t c.before.before.before.before amount.Difference c.before.before.enum-told4.given.1 in
     (omega (arith, n.some), rw c.link2.ensures (s.requires.1.0, s.requires.1.1, n.stands.1.1, n.fields.1))
 
-amount_here_difference_of_requires : (t : ℕ) → amount-here-lts.Need-difference-of-requires (amount_here_calls t) (amount_here_at t) amount_here.Post
+amount_here_difference_of_requires : (t : ℕ) → amount-here-lts.Need-difference-of-requires (amount_here_calls t) (amount_here_at t) amount-here.Post
 amount_here_difference_of_requires t c κs =
     let s = c.before.before.before.before.before.before.before in (
       valued_small s.args.h.0 s.args.f.0 s.args.bounds.now.now s.args.values.now.now _ _ c.before.before.checked-operand3.result c.before.before.checked-operand3.ensures,
       valued_small s.args.h.0 s.args.f.0 s.args.bounds.now.now s.args.values.now.now _ _ c.checked-operand4.result c.checked-operand4.ensures,
     )
 
-amount_here_add_checked_operand_3 : (t : ℕ) → amount-here-lts.Need-overflow-add-checked-operand-3 (amount_here_calls t) (amount_here_at t) amount_here.Post
+amount_here_add_checked_operand_3 : (t : ℕ) → amount-here-lts.Need-overflow-add-checked-operand-3 (amount_here_calls t) (amount_here_at t) amount-here.Post
 amount_here_add_checked_operand_3 t c =
     let n = amount_here_here t c.before.before amount.Product c.enum-told5.given.1 in
     record { fits = omega (arith, n.inside) }
 
-amount_here_sub_checked_operand_5 : (t : ℕ) → amount-here-lts.Need-overflow-sub-checked-operand-5 (amount_here_calls t) (amount_here_at t) amount_here.Post
+amount_here_sub_checked_operand_5 : (t : ℕ) → amount-here-lts.Need-overflow-sub-checked-operand-5 (amount_here_calls t) (amount_here_at t) amount-here.Post
 amount_here_sub_checked_operand_5 t c =
     let n = amount_here_here t c.before.before amount.Product c.enum-told5.given.1 in
     omega (arith, n.some)
 
-amount_here_checked_operand_requires_5 : (t : ℕ) → amount-here-lts.Need-checked-operand-requires-5 (amount_here_calls t) (amount_here_at t) amount_here.Post
+amount_here_checked_operand_requires_5 : (t : ℕ) → amount-here-lts.Need-checked-operand-requires-5 (amount_here_calls t) (amount_here_at t) amount-here.Post
 unfolding fields_of_amount
 amount_here_checked_operand_requires_5 t c κs =
     let s = c.before.before.before.before in
     let n = amount_here_here t c.before.before amount.Product c.enum-told5.given.1 in
     (omega (arith, n.some), (s.requires.1.0, s.requires.1.1, n.stands.0, n.fields.0))
 
-amount_here_link_requires_3 : (t : ℕ) → amount-here-lts.Need-link-requires-3 (amount_here_calls t) (amount_here_at t) amount_here.Post
+amount_here_link_requires_3 : (t : ℕ) → amount-here-lts.Need-link-requires-3 (amount_here_calls t) (amount_here_at t) amount-here.Post
 amount_here_link_requires_3 t c κs =
     let n = amount_here_here t c.before.before.before amount.Product c.before.enum-told5.given.1 in
     (n.inside, omega arith, n.stands.1.0)
 
-amount_here_sub_checked_operand_6 : (t : ℕ) → amount-here-lts.Need-overflow-sub-checked-operand-6 (amount_here_calls t) (amount_here_at t) amount_here.Post
+amount_here_sub_checked_operand_6 : (t : ℕ) → amount-here-lts.Need-overflow-sub-checked-operand-6 (amount_here_calls t) (amount_here_at t) amount-here.Post
 amount_here_sub_checked_operand_6 t c =
     let n = amount_here_here t c.before.before.before.before amount.Product c.before.before.enum-told5.given.1 in
     omega (arith, n.some)
 
-amount_here_checked_operand_requires_6 : (t : ℕ) → amount-here-lts.Need-checked-operand-requires-6 (amount_here_calls t) (amount_here_at t) amount_here.Post
+amount_here_checked_operand_requires_6 : (t : ℕ) → amount-here-lts.Need-checked-operand-requires-6 (amount_here_calls t) (amount_here_at t) amount-here.Post
 unfolding fields_of_amount
 amount_here_checked_operand_requires_6 t c κs =
     let s = c.before.before.before.before.before.before in
     let n = amount_here_here t c.before.before.before.before amount.Product c.before.before.enum-told5.given.1 in
     (omega (arith, n.some), rw c.link3.ensures (s.requires.1.0, s.requires.1.1, n.stands.1.1, n.fields.1))
 
-amount_here_product_of_requires : (t : ℕ) → amount-here-lts.Need-product-of-requires (amount_here_calls t) (amount_here_at t) amount_here.Post
+amount_here_product_of_requires : (t : ℕ) → amount-here-lts.Need-product-of-requires (amount_here_calls t) (amount_here_at t) amount-here.Post
 amount_here_product_of_requires t c κs =
     let s = c.before.before.before.before.before.before.before in (
       valued_small s.args.h.0 s.args.f.0 s.args.bounds.now.now s.args.values.now.now _ _ c.before.before.checked-operand5.result c.before.before.checked-operand5.ensures,
       valued_small s.args.h.0 s.args.f.0 s.args.bounds.now.now s.args.values.now.now _ _ c.checked-operand6.result c.checked-operand6.ensures,
     )
 
-amount_here_add_checked_operand_4 : (t : ℕ) → amount-here-lts.Need-overflow-add-checked-operand-4 (amount_here_calls t) (amount_here_at t) amount_here.Post
+amount_here_add_checked_operand_4 : (t : ℕ) → amount-here-lts.Need-overflow-add-checked-operand-4 (amount_here_calls t) (amount_here_at t) amount-here.Post
 amount_here_add_checked_operand_4 t c =
     let n = amount_here_here t c.before.before amount.Quotient c.enum-told6.given.1 in
     record { fits = omega (arith, n.inside) }
 
-amount_here_sub_checked_operand_7 : (t : ℕ) → amount-here-lts.Need-overflow-sub-checked-operand-7 (amount_here_calls t) (amount_here_at t) amount_here.Post
+amount_here_sub_checked_operand_7 : (t : ℕ) → amount-here-lts.Need-overflow-sub-checked-operand-7 (amount_here_calls t) (amount_here_at t) amount-here.Post
 amount_here_sub_checked_operand_7 t c =
     let n = amount_here_here t c.before.before amount.Quotient c.enum-told6.given.1 in
     omega (arith, n.some)
 
-amount_here_checked_operand_requires_7 : (t : ℕ) → amount-here-lts.Need-checked-operand-requires-7 (amount_here_calls t) (amount_here_at t) amount_here.Post
+amount_here_checked_operand_requires_7 : (t : ℕ) → amount-here-lts.Need-checked-operand-requires-7 (amount_here_calls t) (amount_here_at t) amount-here.Post
 unfolding fields_of_amount
 amount_here_checked_operand_requires_7 t c κs =
     let s = c.before.before.before.before in
     let n = amount_here_here t c.before.before amount.Quotient c.enum-told6.given.1 in
     (omega (arith, n.some), (s.requires.1.0, s.requires.1.1, n.stands, n.fields.2))
 
-amount_here_over_requires : (t : ℕ) → amount-here-lts.Need-over-requires (amount_here_calls t) (amount_here_at t) amount_here.Post
+amount_here_over_requires : (t : ℕ) → amount-here-lts.Need-over-requires (amount_here_calls t) (amount_here_at t) amount-here.Post
 unfolding fields_of_amount
 amount_here_over_requires t c κs =
     let s = c.before.before.before.before.before in
     let n = amount_here_here t c.before.before.before amount.Quotient c.before.enum-told6.given.1 in
     (n.inside, record { some = n.fields.0; small = n.fields.1 }, valued_small s.args.h.0 s.args.f.0 s.args.bounds.now.now s.args.values.now.now _ _ c.checked-operand7.result c.checked-operand7.ensures)
 
-amount_here_add_checked_holds : (t : ℕ) → amount-here-lts.Need-overflow-add-checked-holds (amount_here_calls t) (amount_here_at t) amount_here.Post
+amount_here_add_checked_holds : (t : ℕ) → amount-here-lts.Need-overflow-add-checked-holds (amount_here_calls t) (amount_here_at t) amount-here.Post
 amount_here_add_checked_holds t c =
     let n = amount_here_here t c.before.before amount.Choose c.enum-told7.given.1 in
     record { fits = omega (arith, n.inside) }
 
-amount_here_sub_checked_holds : (t : ℕ) → amount-here-lts.Need-overflow-sub-checked-holds (amount_here_calls t) (amount_here_at t) amount_here.Post
+amount_here_sub_checked_holds : (t : ℕ) → amount-here-lts.Need-overflow-sub-checked-holds (amount_here_calls t) (amount_here_at t) amount-here.Post
 amount_here_sub_checked_holds t c =
     let n = amount_here_here t c.before.before amount.Choose c.enum-told7.given.1 in
     omega (arith, n.some)
 
-amount_here_checked_holds_requires : (t : ℕ) → amount-here-lts.Need-checked-holds-requires (amount_here_calls t) (amount_here_at t) amount_here.Post
+amount_here_checked_holds_requires : (t : ℕ) → amount-here-lts.Need-checked-holds-requires (amount_here_calls t) (amount_here_at t) amount-here.Post
 unfolding fields_of_amount
 amount_here_checked_holds_requires t c κs =
     let s = c.before.before.before.before in
     let n = amount_here_here t c.before.before amount.Choose c.enum-told7.given.1 in
     (omega (arith, n.some), (s.requires.1.0, s.requires.1.1, n.stands.0, n.fields.0))
 
-amount_here_link_requires_4 : (t : ℕ) → amount-here-lts.Need-link-requires-4 (amount_here_calls t) (amount_here_at t) amount_here.Post
+amount_here_link_requires_4 : (t : ℕ) → amount-here-lts.Need-link-requires-4 (amount_here_calls t) (amount_here_at t) amount-here.Post
 amount_here_link_requires_4 t c κs =
     let n = amount_here_here t c.before.before.before.before.before amount.Choose c.before.before.before.enum-told7.given.1 in
     (n.inside, omega arith, n.stands.1.0)
 
-amount_here_sub_checked_operand_8 : (t : ℕ) → amount-here-lts.Need-overflow-sub-checked-operand-8 (amount_here_calls t) (amount_here_at t) amount_here.Post
+amount_here_sub_checked_operand_8 : (t : ℕ) → amount-here-lts.Need-overflow-sub-checked-operand-8 (amount_here_calls t) (amount_here_at t) amount-here.Post
 amount_here_sub_checked_operand_8 t c =
     let n = amount_here_here t c.before.before.before.before.before.before amount.Choose c.before.before.before.before.enum-told7.given.1 in
     omega (arith, n.some)
 
-amount_here_checked_operand_requires_8 : (t : ℕ) → amount-here-lts.Need-checked-operand-requires-8 (amount_here_calls t) (amount_here_at t) amount_here.Post
+amount_here_checked_operand_requires_8 : (t : ℕ) → amount-here-lts.Need-checked-operand-requires-8 (amount_here_calls t) (amount_here_at t) amount-here.Post
 unfolding fields_of_amount
 amount_here_checked_operand_requires_8 t c κs =
     let s = c.before.before.before.before.before.before.before.before in
     let n = amount_here_here t c.before.before.before.before.before.before amount.Choose c.before.before.before.before.enum-told7.given.1 in
     (omega (arith, n.some), rw c.link4.ensures (s.requires.1.0, s.requires.1.1, n.stands.1.1, n.fields.1))
 
-amount_here_link_requires_5 : (t : ℕ) → amount-here-lts.Need-link-requires-5 (amount_here_calls t) (amount_here_at t) amount_here.Post
+amount_here_link_requires_5 : (t : ℕ) → amount-here-lts.Need-link-requires-5 (amount_here_calls t) (amount_here_at t) amount-here.Post
 amount_here_link_requires_5 t c κs =
     let n = amount_here_here t c.before.before.before.before.before amount.Choose c.before.before.before.enum-told7.given.1 in
     (n.inside, omega arith, n.stands.2.0)
 
-amount_here_sub_checked_operand_9 : (t : ℕ) → amount-here-lts.Need-overflow-sub-checked-operand-9 (amount_here_calls t) (amount_here_at t) amount_here.Post
+amount_here_sub_checked_operand_9 : (t : ℕ) → amount-here-lts.Need-overflow-sub-checked-operand-9 (amount_here_calls t) (amount_here_at t) amount-here.Post
 amount_here_sub_checked_operand_9 t c =
     let n = amount_here_here t c.before.before.before.before.before.before amount.Choose c.before.before.before.before.enum-told7.given.1 in
     omega (arith, n.some)
 
-amount_here_checked_operand_requires_9 : (t : ℕ) → amount-here-lts.Need-checked-operand-requires-9 (amount_here_calls t) (amount_here_at t) amount_here.Post
+amount_here_checked_operand_requires_9 : (t : ℕ) → amount-here-lts.Need-checked-operand-requires-9 (amount_here_calls t) (amount_here_at t) amount-here.Post
 unfolding fields_of_amount
 amount_here_checked_operand_requires_9 t c κs =
     let s = c.before.before.before.before.before.before.before.before in
     let n = amount_here_here t c.before.before.before.before.before.before amount.Choose c.before.before.before.before.enum-told7.given.1 in
     (omega (arith, n.some), rw c.link5.ensures (s.requires.1.0, s.requires.1.1, n.stands.2.1, n.fields.2))
 
-amount_here_returns : (t : ℕ) → amount-here-lts.Need-returns (amount_here_calls t) (amount_here_at t) amount_here.Post
+amount_here_returns : (t : ℕ) → amount-here-lts.Need-returns (amount_here_calls t) (amount_here_at t) amount-here.Post
 amount_here_returns t c =
     let n = amount_here_here t c.before.before.before amount.Number c.before.enum_told.given.1 in
     arms.number_arm _ _ _ _ _ _ _ _ n c.number.ensures
 
-amount_here_returns_2 : (t : ℕ) → amount-here-lts.Need-returns-2 (amount_here_calls t) (amount_here_at t) amount_here.Post
+amount_here_returns_2 : (t : ℕ) → amount-here-lts.Need-returns-2 (amount_here_calls t) (amount_here_at t) amount-here.Post
 amount_here_returns_2 t c =
     let n = amount_here_here t c.before.before.before amount.Index c.before.enum-told2.given.1 in
     arms.index_arm _ _ _ _ _ _ _ _ n c.reading.ensures
 
-amount_here_returns_3 : (t : ℕ) → amount-here-lts.Need-returns-3 (amount_here_calls t) (amount_here_at t) amount_here.Post
+amount_here_returns_3 : (t : ℕ) → amount-here-lts.Need-returns-3 (amount_here_calls t) (amount_here_at t) amount-here.Post
 amount_here_returns_3 t c =
     let n = amount_here_here t c.before.before.before.before.before.before amount.Sum c.before.before.before.before.enum-told3.given.1 in
     arms.sum_arm _ _ _ _ _ _ _ _ c.before.before.before.checked-operand.ensures c.before.before.link.ensures c.before.checked-operand2.ensures n c.sum_of.ensures
 
-amount_here_returns_4 : (t : ℕ) → amount-here-lts.Need-returns-4 (amount_here_calls t) (amount_here_at t) amount_here.Post
+amount_here_returns_4 : (t : ℕ) → amount-here-lts.Need-returns-4 (amount_here_calls t) (amount_here_at t) amount-here.Post
 amount_here_returns_4 t c =
     let n = amount_here_here t c.before.before.before.before.before.before amount.Difference c.before.before.before.before.enum-told4.given.1 in
-    arms.difference_arm _ _ _ _ _ _ _ _ c.before.before.before.checked-operand3.ensures c.before.before.link2.ensures c.before.checked-operand4.ensures n c.difference_of.ensures
+    arms.difference_arm _ _ _ _ _ _ _ _ c.before.before.before.checked-operand3.ensures c.before.before.link2.ensures c.before.checked-operand4.ensures n c.difference-of.ensures
 
-amount_here_returns_5 : (t : ℕ) → amount-here-lts.Need-returns-5 (amount_here_calls t) (amount_here_at t) amount_here.Post
+amount_here_returns_5 : (t : ℕ) → amount-here-lts.Need-returns-5 (amount_here_calls t) (amount_here_at t) amount-here.Post
 amount_here_returns_5 t c =
     let n = amount_here_here t c.before.before.before.before.before.before amount.Product c.before.before.before.before.enum-told5.given.1 in
     arms.product_arm _ _ _ _ _ _ _ _ c.before.before.before.checked-operand5.ensures c.before.before.link3.ensures c.before.checked-operand6.ensures n c.product-of.ensures
 
-amount_here_returns_6 : (t : ℕ) → amount-here-lts.Need-returns-6 (amount_here_calls t) (amount_here_at t) amount_here.Post
+amount_here_returns_6 : (t : ℕ) → amount-here-lts.Need-returns-6 (amount_here_calls t) (amount_here_at t) amount-here.Post
 amount_here_returns_6 t c =
     let n = amount_here_here t c.before.before.before.before amount.Quotient c.before.before.enum-told6.given.1 in
     arms.quotient_arm _ _ _ _ _ _ _ _ n c.before.checked-operand7.ensures c.over.ensures
 
-amount_here_returns_7 : (t : ℕ) → amount-here-lts.Need-returns-7 (amount_here_calls t) (amount_here_at t) amount_here.Post
+amount_here_returns_7 : (t : ℕ) → amount-here-lts.Need-returns-7 (amount_here_calls t) (amount_here_at t) amount-here.Post
 amount_here_returns_7 t c =
     let n = amount_here_here t c.before.before.before.before.before.before.before amount.Choose c.before.before.before.before.before.enum-told7.given.1 in
     arms.then_arm _ _ _ _ _ _ _ _ n (sym c.before.before.before.before.checked-holds.ensures ∙ ap tested_answer c.before.before.enum-told8.given.1) c.before.link4.ensures c.checked-operand8.ensures
 
-amount_here_returns_8 : (t : ℕ) → amount-here-lts.Need-returns-8 (amount_here_calls t) (amount_here_at t) amount_here.Post
+amount_here_returns_8 : (t : ℕ) → amount-here-lts.Need-returns-8 (amount_here_calls t) (amount_here_at t) amount-here.Post
 amount_here_returns_8 t c =
     let n = amount_here_here t c.before.before.before.before.before.before.before amount.Choose c.before.before.before.before.before.enum-told7.given.1 in
     arms.else_arm _ _ _ _ _ _ _ _ n (sym c.before.before.before.before.checked-holds.ensures ∙ ap tested_answer c.before.before.enum-told9.given.1) c.before.link5.ensures c.checked-operand9.ensures
 
-amount_here_returns_9 : (t : ℕ) → amount-here-lts.Need-returns-9 (amount_here_calls t) (amount_here_at t) amount_here.Post
+amount_here_returns_9 : (t : ℕ) → amount-here-lts.Need-returns-9 (amount_here_calls t) (amount_here_at t) amount-here.Post
 amount_here_returns_9 t c =
     let n = amount_here_here t c.before.before.before.before.before.before amount.Choose c.before.before.before.before.enum-told7.given.1 in
     arms.refused_arm _ _ _ _ _ _ _ _ n (sym c.before.before.before.checked-holds.ensures ∙ ap tested_answer c.before.t.given.1)
 
-amount_here_returns_10 : (t : ℕ) → amount-here-lts.Need-returns-10 (amount_here_calls t) (amount_here_at t) amount_here.Post
+amount_here_returns_10 : (t : ℕ) → amount-here-lts.Need-returns-10 (amount_here_calls t) (amount_here_at t) amount-here.Post
 amount_here_returns_10 t c =
     let n = amount_here_here t c.before.before amount.NoAmount c.enum-told10.given.1 in
     arms.no_amount_arm _ _ _ _ _ _ _ _ n
 
-amount_here_part : {M : Type 1} (t : ℕ) → amount-here-lts.Closed (amount_here_calls t) (amount_here_at t) amount_here.Post M
+amount_here_part : {M : Type 1} (t : ℕ) → amount-here-lts.Closed (amount_here_calls t) (amount_here_at t) amount-here.Post M
 amount_here_part t =
-    amount-here-lts.spec (amount_here_calls t) (amount_here_at t) amount_here.Post
+    amount-here-lts.spec (amount_here_calls t) (amount_here_at t) amount-here.Post
     (amount_here_slot_requires t)
     (λ c κs. search rules)
     (λ c. search rules)
@@ -614,12 +614,12 @@ checked_holds_checked_holds_requires_5 t c κs =
 checked_holds_returns : (t : ℕ) → checked-holds-lts.Need-returns (checked_holds_calls t) (checked_holds_at t) checked-holds.Post
 checked_holds_returns t c =
     let n = checked_holds_here t c.before.before.before.before.before.before test.Less c.before.before.before.before.enum_told.given.1 in
-    arms.less_arm _ _ _ _ _ _ _ _ c.before.before.before.checked-operand.ensures c.before.before.link.ensures c.before.checked-operand2.ensures n c.less_than.ensures
+    arms.less_arm _ _ _ _ _ _ _ _ c.before.before.before.checked-operand.ensures c.before.before.link.ensures c.before.checked-operand2.ensures n c.less-than.ensures
 
 checked_holds_returns_2 : (t : ℕ) → checked-holds-lts.Need-returns-2 (checked_holds_calls t) (checked_holds_at t) checked-holds.Post
 checked_holds_returns_2 t c =
     let n = checked_holds_here t c.before.before.before.before.before.before test.Equal c.before.before.before.before.enum-told2.given.1 in
-    arms.equal_arm _ _ _ _ _ _ _ _ c.before.before.before.checked-operand3.ensures c.before.before.link2.ensures c.before.checked-operand4.ensures n c.equal_to.ensures
+    arms.equal_arm _ _ _ _ _ _ _ _ c.before.before.before.checked-operand3.ensures c.before.before.link2.ensures c.before.checked-operand4.ensures n c.equal-to.ensures
 
 checked_holds_returns_3 : (t : ℕ) → checked-holds-lts.Need-returns-3 (checked_holds_calls t) (checked_holds_at t) checked-holds.Post
 checked_holds_returns_3 t c =
@@ -692,7 +692,7 @@ checked_holds_part t =
     (checked_holds_returns_6 t)
 
 abbrev checked_operand_calls : ℕ → checked-operand-lts.Claims
-checked_operand_calls t = (slot-reads.Asked, slot-reads.Learnt, number_reads.Asked, number_reads.Learnt, reading-reads.Asked, reading-reads.Learnt, checked_value_below t, checked_value.Post, valued-reads.Asked, valued-reads.Learnt)
+checked_operand_calls t = (slot-reads.Asked, slot-reads.Learnt, number-reads.Asked, number-reads.Learnt, reading-reads.Asked, reading-reads.Learnt, checked_value_below t, checked_value.Post, valued-reads.Asked, valued-reads.Learnt)
 
 checked_operand_slot_requires : (t : ℕ) → checked-operand-lts.Need-slot-requires (checked_operand_calls t) (checked_operand_at t) checked-operand.Post
 checked_operand_slot_requires t c κs = (amount_inside _ _ _ c.requires.1.2, omega arith)
@@ -748,7 +748,7 @@ checked_operand_part t =
     (checked_operand_returns_3 t)
 
 abbrev checked_value_calls : ℕ → checked-value-lts.Claims
-checked_value_calls t = (amount_here_below t, amount_here.Post, code_Reads.Asked, code_Reads.Learnt)
+checked_value_calls t = (amount_here_below t, amount-here.Post, code_Reads.Asked, code_Reads.Learnt)
 
 checked_value_amount_here_requires : (t : ℕ) → checked-value-lts.Need-amount-here-requires (checked_value_calls t) (checked_value_at t) checked_value.Post
 checked_value_amount_here_requires t c κs = (omega arith, c.requires.1)
@@ -756,12 +756,12 @@ checked_value_amount_here_requires t c κs = (omega arith, c.requires.1)
 checked_value_code_requires : (t : ℕ) → checked-value-lts.Need-code-requires (checked_value_calls t) (checked_value_at t) checked_value.Post
 checked_value_code_requires t c κs =
     let a = c.before.args in
-    valued_small a.h.0 a.f.0 a.bounds.now.now a.values.now.now _ _ c.amount_here.result c.amount_here.ensures
+    valued_small a.h.0 a.f.0 a.bounds.now.now a.values.now.now _ _ c.amount-here.result c.amount-here.ensures
 
 checked_value_returns : (t : ℕ) → checked-value-lts.Need-returns (checked_value_calls t) (checked_value_at t) checked_value.Post
 checked_value_returns t c =
     let f : SFits w64 c.code.result = search rules in
-    ap valued_in (to_z-of_z f) ∙ c.code.ensures ∙ c.before.amount_here.ensures
+    ap valued_in (to_z-of_z f) ∙ c.code.ensures ∙ c.before.amount-here.ensures
 
 checked_value_part : {M : Type 1} (t : ℕ) → checked-value-lts.Closed (checked_value_calls t) (checked_value_at t) checked_value.Post M
 checked_value_part t =

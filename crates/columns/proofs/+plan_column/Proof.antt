@@ -219,7 +219,7 @@ plan_column_returns_2 : (t : ℕ) → plan-column-lts.Need-returns-2 (plan_colum
 plan_column_returns_2 t c =
     let h = c.before.before.before.before.before.before.requires.1 in
     let n = node.column_node h.2 h.3 c.before.before.before.before.before.letter.ensures c.before.before.before.enum-told2.given.1 in
-    node.transfer_arm _ n c.before.add_penny.ensures
+    node.transfer_arm _ n c.before.add-penny.ensures
 
 plan_column_returns_3 : (t : ℕ) → plan-column-lts.Need-returns-3 (plan_column_calls t) (plan_column_at t) plan-column.Post
 plan_column_returns_3 t c =

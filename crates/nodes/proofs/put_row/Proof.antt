@@ -1,5 +1,5 @@
 use Prim.Native.Nat.{◌*◌, ◌+◌, ◌-◌, suc}
-use lib.ListN.{length_set}
+use lib.ListN.{length-set}
 use mathlib.Core.Path.{◌≡◌}
 use mir.Syntax.{w64}
 use mir.ValLaws.{to_z-of_z}
@@ -27,7 +27,7 @@ mul_a_2 : tie.Need-overflow-mul-a-2
 mul_a_2 c = search rules
 
 slice_set_from_a : tie.Need-slice-set-from-a
-slice_set_from_a c = simp length_set (omega arith)
+slice_set_from_a c = simp length-set (omega arith)
 
 mul_b : tie.Need-overflow-mul-b
 mul_b c = search rules
@@ -39,7 +39,7 @@ mul_b_2 : tie.Need-overflow-mul-b-2
 mul_b_2 c = search rules
 
 slice_set_from_b : tie.Need-slice-set-from-b
-slice_set_from_b c = simp length_set (omega arith)
+slice_set_from_b c = simp length-set (omega arith)
 
 mul_c : tie.Need-overflow-mul-c
 mul_c c = search rules
@@ -51,7 +51,7 @@ mul_c_2 : tie.Need-overflow-mul-c-2
 mul_c_2 c = search rules
 
 slice_set_from_c : tie.Need-slice-set-from-c
-slice_set_from_c c = simp length_set (omega arith)
+slice_set_from_c c = simp length-set (omega arith)
 
 mul_d : tie.Need-overflow-mul-d
 mul_d c = search rules
@@ -63,10 +63,10 @@ mul_d_2 : tie.Need-overflow-mul-d-2
 mul_d_2 c = search rules
 
 slice_set_from_d : tie.Need-slice-set-from-d
-slice_set_from_d c = simp length_set (omega arith)
+slice_set_from_d c = simp length-set (omega arith)
 
 same_length : tie.Need-same-length
-same_length c = simp length_set
+same_length c = simp length-set
 
 returns : tie.Need-returns
 returns c =

@@ -22,7 +22,7 @@ evaluate_nodes_requires c κs =
     let a = c.before.before.before.before.before.before.before.before.before.args in
     let r = c.before.before.before.before.before.before.read-payoff in
     let u = subst (ReadInto payoff_form (text_as_read payoff_form a.text.now) r.new.1.0) c.before.before.before.reading.given.1 r.ensures.0 in
-    (read_stands a.text.now _ _ u, λ e. read_settled a.text.now _ _ u (c.may-use.ensures e), c.before.before.before.before.before.before.before.before.before.requires.1)
+    (read_stands a.text.now _ _ u, λ e. read_settled a.text.now _ _ u (c.may-use.ensures e))
 
 enum_known_reading_2 : tie.Need-enum-known-reading-2
 enum_known_reading_2 c = search rules

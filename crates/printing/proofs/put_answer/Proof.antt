@@ -1,6 +1,6 @@
 -- `put_answer` meets its contract.
 use borrow.Author.Rules.{rules}
-use lib.ListN.{length_append}
+use lib.ListN.{length-append}
 use mathlib.Core.Path.{refl}
 use native.Mathlib.Omega.{arith}
 use Rattle.printing.proofs.put_answer.Statement.{statement}
@@ -12,7 +12,7 @@ use Rattle.writer.specs.Digits.{all_pairs}
 put_head_requires : tie.Need-put-head-requires
 put_head_requires c κs =
     let s = c.before.before in
-    (s.requires.0, omega (arith, length_append (head_text s.args.head.now) (months_text s.args.column.now s.args.rest.now 0 s.args.months), s.requires.4))
+    (s.requires.0, omega (arith, length-append (head_text s.args.head.now) (months_text s.args.column.now s.args.rest.now 0 s.args.months), s.requires.4))
 
 put_months_requires : tie.Need-put-months-requires
 unfolding all_pairs

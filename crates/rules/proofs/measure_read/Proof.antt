@@ -5,7 +5,7 @@ use mir.Val.{to_z}
 use Rattle.one_pass.specs.Packed.{behind, magnitude_in}
 use lib.ListN.{length}
 use borrow.Author.Tests.{eqb-true, leb-true}
-use mathlib.Core.Bool.{and_true, true}
+use mathlib.Core.Bool.{and-true, true}
 use mathlib.Core.List.{[]}
 use mathlib.Core.Path.{◌∙◌, ◌≡◌, ap, sym}
 use native.Mathlib.Omega.{arith}
@@ -80,7 +80,7 @@ returns c =
     let ok = sym c.before.before.before.before.table-ok.ensures ∙ c.before.before.before.if2.true in
     let i = in_table a.t2.now a.span.h a.span.f a.factors.now a.t5.now a.values.now a.today.0 true p.plan ok s.requires.3 in
     let x = p.sure _ _ _ (seen_today a.today.0 a.span a.t5.now i c.before.before.before.before.before.before.before.before.before.before.before.before.before.before.nearer.ensures c.before.before.before.before.before.before.before.before.before.before.before.before.nearer2.ensures) in
-    let r = all_kept a.today.0 a.span a.t5.now (fill (setting_at a.t2.now) p.plan) i c.before.before.before.before.before.before.before.before.before.before.before.before.nearer2.ensures x _ (c.before.nearer3.ensures ∙ ap (λ n. c.before.before.before.before.before.before.before.before.before.before.before.before.nearer2.result.0 -ℤ to_z w64 n) c.before.before.months.ensures) _ (plain_read {m = c.magnitude.result} (omega (arith, k, c.magnitude.ensures)) ∙ ap pos (c.magnitude.ensures ∙ sym (halved c.before.before.before.before.before.before.before.before.plan-at.result))) in (check_accepted a.t1.now s.requires.0 p.plan p.is e a.t2.now a.span.h a.span.f a.factors.now a.t5.now a.values.now a.today.0 ok (and_true _ ∙ s.requires.3) s.requires.1 p.set (whole_month a.span.f a.today.0 s.requires.3) _ r.0, r.1)
+    let r = all_kept a.today.0 a.span a.t5.now (fill (setting_at a.t2.now) p.plan) i c.before.before.before.before.before.before.before.before.before.before.before.before.nearer2.ensures x _ (c.before.nearer3.ensures ∙ ap (λ n. c.before.before.before.before.before.before.before.before.before.before.before.before.nearer2.result.0 -ℤ to_z w64 n) c.before.before.months.ensures) _ (plain_read {m = c.magnitude.result} (omega (arith, k, c.magnitude.ensures)) ∙ ap pos (c.magnitude.ensures ∙ sym (halved c.before.before.before.before.before.before.before.before.plan-at.result))) in (check_accepted a.t1.now s.requires.0 p.plan p.is e a.t2.now a.span.h a.span.f a.factors.now a.t5.now a.values.now a.today.0 ok (and-true _ ∙ s.requires.3) s.requires.1 p.set (whole_month a.span.f a.today.0 s.requires.3) _ r.0, r.1)
 
 returns_2 : tie.Need-returns-2
 returns_2 c = search rules

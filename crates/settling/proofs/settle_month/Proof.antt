@@ -12,7 +12,7 @@ use Rattle.nodes.specs.Rows.{settings_in}
 use Rattle.nodes.proofs.Signed.{key}
 use Rattle.integers.proofs.Locals.{rd}
 use lib.IntN.{◌+ℤ◌, nat_abs}
-use lib.ListN.{length_set}
+use lib.ListN.{length-set}
 use borrow.Author.Rules.{rules}
 use Rattle.settling.proofs.settle_month.Statement.{statement}
 use Rattle.settling.proofs.settle_month.Tie as tie
@@ -87,7 +87,7 @@ slice_set_of_nodes : tie.Need-slice-set-of-nodes
 slice_set_of_nodes c =
     let s = c.before.before.before.before.before.before.before in
     let a = s.args in
-    omega (arith, s.requires.0, length_set a.nodes.now a.at (rd (rd (get_or a.nodes.now a.at (pos 0)) +ℤ to_z w64 c.before.summed.given.0.0)))
+    omega (arith, s.requires.0, length-set a.nodes.now a.at (rd (rd (get_or a.nodes.now a.at (pos 0)) +ℤ to_z w64 c.before.summed.given.0.0)))
 
 enum_told : tie.Need-enum-told
 enum_told c = search rules

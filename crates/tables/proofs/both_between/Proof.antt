@@ -1,6 +1,6 @@
 use Rattle.std.proofs.Common.{◌≡◌, ◌-◌, ◌≤◌, true, ◌&&◌, length, get_or, drop, ℤ, pos, sym, refl, ap, ◌∙◌, ap₂, arith, w64, Fits, SFits, rules}
 use lib.Bits.{bit_or}
-use mathlib.Core.Bool.{and_true}
+use mathlib.Core.Bool.{and-true}
 use Rattle.language.specs.Rules.Table.{all_of}
 use Rattle.language.specs.Text.Number.{between}
 use Rattle.tables.proofs.Lists.{all_done, both_next, one_joined}
@@ -110,7 +110,7 @@ returns c =
     let p = between a.args.range.low a.args.range.high in
     let k = ends _ _ low high a.requires.0 s.before.before.before.before.before.word.ensures s.before.before.before.word2.ensures wf.fits width.ensures of.fits over.ensures in
     let t : all_of p (drop s.loop.i xs) && all_of p (drop s.loop.i ys) ≡ true = ap₂ ◌&&◌ (all_done p xs s.loop.i (omega arith)) (all_done p ys s.loop.i (omega (arith, a.requires.1))) in
-    joined s.loop.below s.loop.above ∙ sym (s.loop.invariant.1 _ _ k ∙ ap (λ b. (clear s.loop.below && clear s.loop.above) && b) t ∙ and_true _)
+    joined s.loop.below s.loop.above ∙ sym (s.loop.invariant.1 _ _ k ∙ ap (λ b. (clear s.loop.below && clear s.loop.above) && b) t ∙ and-true _)
 
 pub both_between_spec : {M : Type 1} → statement M
 both_between_spec =

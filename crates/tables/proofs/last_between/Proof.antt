@@ -1,5 +1,5 @@
 use Rattle.std.proofs.Common.{◌+◌, ◌&&◌, get_or, pos, sym, ap, ◌∙◌, to_z-of_z, w64, SFits, rules}
-use mathlib.Core.Bool.{and_true}
+use mathlib.Core.Bool.{and-true}
 use Rattle.language.specs.Text.Number.{between}
 use Rattle.tables.proofs.Lists.{all_done, all_next}
 use Rattle.tables.proofs.last_between.Statement.{statement}
@@ -21,7 +21,7 @@ returns c =
     let xs = s.args.xs.now in
     let at = s.args.at in
     let f : SFits w64 (get_or xs at (pos 0)) = search rules in
-    c.is-between.ensures ∙ ap p (to_z-of_z f) ∙ sym (all_next p xs at c.before.before.if1.true ∙ ap (λ r. p (get_or xs at (pos 0)) && r) (all_done p xs (at + 1) s.requires) ∙ and_true (p (get_or xs at (pos 0))))
+    c.is-between.ensures ∙ ap p (to_z-of_z f) ∙ sym (all_next p xs at c.before.before.if1.true ∙ ap (λ r. p (get_or xs at (pos 0)) && r) (all_done p xs (at + 1) s.requires) ∙ and-true (p (get_or xs at (pos 0))))
 
 returns_2 : tie.Need-returns-2
 returns_2 c =

@@ -1,4 +1,4 @@
-use Rattle.std.proofs.Common.{length, refl, ◌∙◌, arith, rules, le_leb}
+use Rattle.std.proofs.Common.{length, refl, ◌∙◌, arith, rules, le-leb}
 use borrow.Author.Tests.{lt-leb}
 use Rattle.language.specs.Rules.Table.{are_settings}
 use Rattle.tables.proofs.settings_ok.Statement.{statement}
@@ -19,7 +19,7 @@ all_between_requires c κs = search rules
 -- src/lib.rt:42:1
 returns_2 : tie.Need-returns-2
 unfolding are_settings
-returns_2 c = c.all-between.ensures ∙ rw (le_leb (length c.before.before.args.days.now) 8 (omega arith)) refl
+returns_2 c = c.all-between.ensures ∙ rw (le-leb (length c.before.before.args.days.now) 8 (omega arith)) refl
 
 pub settings_ok_spec : {M : Type 1} → statement M
 settings_ok_spec = tie.close (tie.spec returns all_between_requires returns_2)

@@ -1,4 +1,4 @@
-use borrow.Author.Tests.{le_leb, lt-leb}
+use borrow.Author.Tests.{le-leb, lt-leb}
 use Rattle.unit.proofs.usable.Statement.{statement}
 use Rattle.unit.proofs.usable.Tie as tie
 
@@ -10,7 +10,7 @@ returns c =
 returns_2 : tie.Need-returns-2
 returns_2 c =
     let a = c.before.args in
-    rw (le_leb a.numbers a.places c.if1.false)
+    rw (le-leb a.numbers a.places c.if1.false)
 
 pub usable_spec : {M : Type 1} → statement M
 usable_spec = tie.close (tie.spec returns returns_2)

@@ -37,7 +37,7 @@ use Rattle.amounts.proofs.four.minus.Reads as minus-reads
 use Rattle.amounts.proofs.four.opposite.Reads as opposite_reads
 use Rattle.amounts.proofs.four.plus.Reads as plus-reads
 use Rattle.amounts.proofs.four.times.Reads as times-reads
-use Rattle.amounts.proofs.four_rows.number.Reads as number_reads
+use Rattle.amounts.proofs.four_rows.number.Reads as number-reads
 use Rattle.amounts.proofs.four_rows.over.Reads as over_reads
 use Rattle.amounts.proofs.four_rows.reading.Reads as reading-reads
 use Rattle.nodes.proofs.amount_letter.Reads as amount-letter-reads
@@ -75,7 +75,7 @@ abbrev tests_below : ℕ → In 4 tests-kinds.ps
 tests_below t = and 4 tests-kinds.ps (falls 4 tests-kinds.ps ◌<◌ μ_tests t) tests.Pre
 
 abbrev amounts_calls : ℕ → amounts-lts.Claims
-amounts_calls t = (slot-reads.Asked, slot-reads.Learnt, amount-letter-reads.Asked, amount-letter-reads.Learnt, number_reads.Asked, number_reads.Learnt, reading-reads.Asked, reading-reads.Learnt, operands_below t, operands.Post, link-reads.Asked, link-reads.Learnt, plus-reads.Asked, plus-reads.Learnt, minus-reads.Asked, minus-reads.Learnt, times-reads.Asked, times-reads.Learnt, over_reads.Asked, over_reads.Learnt, tests_below t, tests.Post, chosen-reads.Asked, chosen-reads.Learnt)
+amounts_calls t = (slot-reads.Asked, slot-reads.Learnt, amount-letter-reads.Asked, amount-letter-reads.Learnt, number-reads.Asked, number-reads.Learnt, reading-reads.Asked, reading-reads.Learnt, operands_below t, operands.Post, link-reads.Asked, link-reads.Learnt, plus-reads.Asked, plus-reads.Learnt, minus-reads.Asked, minus-reads.Learnt, times-reads.Asked, times-reads.Learnt, over_reads.Asked, over_reads.Learnt, tests_below t, tests.Post, chosen-reads.Asked, chosen-reads.Learnt)
 
 -- what is known in the arm of letter l, in each of the four months
 amounts_here : (t : ℕ) (c : amounts-lts.After-amount-letter (amounts_calls t) (amounts_at t) amounts.Post) (l : AmountLetter)
@@ -382,7 +382,7 @@ amounts_part t =
     (amounts_returns_8 t)
 
 abbrev operands_calls : ℕ → operands-lts.Claims
-operands_calls t = (slot-reads.Asked, slot-reads.Learnt, number_reads.Asked, number_reads.Learnt, reading-reads.Asked, reading-reads.Learnt, amounts_below t, amounts.Post)
+operands_calls t = (slot-reads.Asked, slot-reads.Learnt, number-reads.Asked, number-reads.Learnt, reading-reads.Asked, reading-reads.Learnt, amounts_below t, amounts.Post)
 
 -- what is known where the letter is l, in each of the four months
 operands_here : (t : ℕ) (c : operands-lts.After-slot (operands_calls t) (operands_at t) operands.Post) (l : AmountLetter)

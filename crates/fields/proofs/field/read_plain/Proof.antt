@@ -34,7 +34,7 @@ add_t10 c =
     let f : List ℕ = up_to 44 (drop a.at a.text.now) in
     let r = c.before.before.before in
     let w = subst (RangedIs (range_of a.class) f a.at) c.before.value.given.1 (subst (λ (x : Range). RangedIs x f a.at r.in_range_lem.result) r.before.before.range-of.ensures
-    (r.in_range_lem.ensures f a.at r.before.plain_number.ensures)) in
+    (r.in_range_lem.ensures f a.at r.before.plain-number.ensures)) in
     let v = c.before.value.given.0.0 in
     let h = plain_reads f a.class v c.before.before.before.before.before.before.before.requires.1 w.is in
     let k = up_fits 44 a.text.now a.at c.before.before.before.before.before.before.before.requires.0 in
@@ -49,7 +49,7 @@ returns c =
     let f : List ℕ = up_to 44 (drop a.at a.text.now) in
     let r = c.before.before.before in
     let w = subst (RangedIs (range_of a.class) f a.at) c.before.value.given.1 (subst (λ (x : Range). RangedIs x f a.at r.in_range_lem.result) r.before.before.range-of.ensures
-    (r.in_range_lem.ensures f a.at r.before.plain_number.ensures)) in
+    (r.in_range_lem.ensures f a.at r.before.plain-number.ensures)) in
     let v = c.before.value.given.0.0 in
     let h = plain_reads f a.class v c.before.before.before.before.before.before.before.requires.1 w.is in
     let k = up_fits 44 a.text.now a.at c.before.before.before.before.before.before.before.requires.0 in
@@ -62,7 +62,7 @@ returns_2 c =
     let f : List ℕ = up_to 44 (drop a.at a.text.now) in
     let r = c.before.before in
     let w = subst (RangedIs (range_of a.class) f a.at) c.enum_told.given.1 (subst (λ (x : Range). RangedIs x f a.at r.in_range_lem.result) r.before.before.range-of.ensures
-    (r.in_range_lem.ensures f a.at r.before.plain_number.ensures)) in
+    (r.in_range_lem.ensures f a.at r.before.plain-number.ensures)) in
     failed_at (class_of a.class) a.text.now a.at c.before.before.before.before.before.before.requires.0 (plain_fails f a.class c.before.before.before.before.before.before.requires.1 w)
 
 pub read_plain_spec : {M : Type 1} → statement M

@@ -102,7 +102,7 @@ measure_plan_of_scale_requires t c κs =
     let q = c.before.before.before.before.before.before.before.enum-told3.given.1 in
     let a = c.before.before.before.before.before.before.before.before.before.before.args in
     let r : PlanReady (a.left - 1) a.nodes.now.now c.before.before.before.before.before.before.link.result = rw c.before.before.before.before.before.before.link.ensures (plans.scale_ready h k q).2 in
-    laws.measures_addable (record { h = pos 0; f = pos 0; factors = []; bounds = []; values = [] }) 0 0 (bound_in a.bounds.now) r (laws.measures_given _ _ _ _ (laws.transfer_is r refl (c.before.before.is_transfer.ensures c.before.if1.true)) (c.of-transfer2.ensures _ _ _ _ _ _))
+    laws.measures_addable (record { h = pos 0; f = pos 0; factors = []; bounds = []; values = [] }) 0 0 (bound_in a.bounds.now) r (laws.measures_given _ _ _ _ (laws.transfer_is r refl (c.before.before.is-transfer.ensures c.before.if1.true)) (c.of-transfer2.ensures _ _ _ _ _ _))
 
 measure_plan_returns : (t : ℕ) → measure-plan-lts.Need-returns (measure_plan_calls t) (measure_plan_at t) measure-plan.Post
 measure_plan_returns t c table a z s =
@@ -113,7 +113,7 @@ measure_plan_returns t c table a z s =
     let r : PlanReady (g.left - 1) g.nodes.now.now c.before.before.before.before.before.before.before.link.result = rw c.before.before.before.before.before.before.before.link.ensures (plans.scale_ready h k q).2 in
     let l = rows.scale_latest h k c.before.before.before.before.before.before.before.link.ensures c.before.before.before.before.before.read-rows.ensures.0 q in
     let w = rows.scale_window h k c.before.before.before.before.before.before.before.link.ensures s c.before.before.before.before.before.before.window-of.ensures c.before.before.before.before.before.read-rows.ensures.1 q in
-    let x = laws.measures_given _ _ _ _ (laws.transfer_is r refl (c.before.before.before.is_transfer.ensures c.before.before.if1.true)) (c.before.of-transfer2.ensures _ _ _ _ _ _) in
+    let x = laws.measures_given _ _ _ _ (laws.transfer_is r refl (c.before.before.before.is-transfer.ensures c.before.before.if1.true)) (c.before.of-transfer2.ensures _ _ _ _ _ _) in
     laws.measures_given _ _ _ _ (laws.scale_is h k q c.before.before.before.before.before.before.before.link.ensures) (c.of-scale.ensures _ _ _ _ _ _ l w c.before.before.before.before.amount_of.ensures x)
 
 measure_plan_sub_measure_plan : (t : ℕ) → measure-plan-lts.Need-overflow-sub-measure-plan (measure_plan_calls t) (measure_plan_at t) measure-plan.Post

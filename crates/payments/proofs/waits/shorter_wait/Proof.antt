@@ -1,4 +1,4 @@
-use lib.ListN.{length_set}
+use lib.ListN.{length-set}
 use mathlib.Core.Path.{refl}
 use native.Mathlib.Omega.{arith}
 use Rattle.payments.proofs.Shortened.{digits_room, few_digits, no_room, rest_room, same_size, whole}
@@ -44,7 +44,7 @@ slice_write_out : tie.Need-slice-write-out
 slice_write_out c = search rules
 
 slice_write_out_2 : tie.Need-slice-write-out-2
-slice_write_out_2 c = simp length_set (omega (arith, c.before.before.if1.false))
+slice_write_out_2 c = simp length-set (omega (arith, c.before.before.if1.false))
 
 put_digits_requires : tie.Need-put-digits-requires
 put_digits_requires c κs =

@@ -1,5 +1,5 @@
 use borrow.Author.Rules.{rules}
-use lib.ListN.{length_set}
+use lib.ListN.{length-set}
 use native.Mathlib.Omega.{arith}
 use Rattle.printing.proofs.Copying.{eight_copied}
 use Rattle.printing.proofs.again.copy_eight.Statement.{statement}
@@ -57,46 +57,46 @@ add_out : tie.Need-overflow-add-out
 add_out c = search rules
 
 slice_write_out_2 : tie.Need-slice-write-out-2
-slice_write_out_2 c = simp length_set (omega arith)
+slice_write_out_2 c = simp length-set (omega arith)
 
 add_out_2 : tie.Need-overflow-add-out-2
 add_out_2 c = search rules
 
 slice_write_out_3 : tie.Need-slice-write-out-3
-slice_write_out_3 c = simp length_set (omega arith)
+slice_write_out_3 c = simp length-set (omega arith)
 
 add_out_3 : tie.Need-overflow-add-out-3
 add_out_3 c = search rules
 
 slice_write_out_4 : tie.Need-slice-write-out-4
-slice_write_out_4 c = simp length_set (omega arith)
+slice_write_out_4 c = simp length-set (omega arith)
 
 add_out_4 : tie.Need-overflow-add-out-4
 add_out_4 c = search rules
 
 slice_write_out_5 : tie.Need-slice-write-out-5
-slice_write_out_5 c = simp length_set (omega arith)
+slice_write_out_5 c = simp length-set (omega arith)
 
 add_out_5 : tie.Need-overflow-add-out-5
 add_out_5 c = search rules
 
 slice_write_out_6 : tie.Need-slice-write-out-6
-slice_write_out_6 c = simp length_set (omega arith)
+slice_write_out_6 c = simp length-set (omega arith)
 
 add_out_6 : tie.Need-overflow-add-out-6
 add_out_6 c = search rules
 
 slice_write_out_7 : tie.Need-slice-write-out-7
-slice_write_out_7 c = simp length_set (omega arith)
+slice_write_out_7 c = simp length-set (omega arith)
 
 add_out_7 : tie.Need-overflow-add-out-7
 add_out_7 c = search rules
 
 slice_write_out_8 : tie.Need-slice-write-out-8
-slice_write_out_8 c = simp length_set (omega arith)
+slice_write_out_8 c = simp length-set (omega arith)
 
 same_length : tie.Need-same-length
-same_length c = simp length_set
+same_length c = simp length-set
 
 returns : tie.Need-returns
 returns c =

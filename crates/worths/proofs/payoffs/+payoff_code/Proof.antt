@@ -239,72 +239,66 @@ payoff_code_add_wait_for t c =
     let n = payoff_code_here t c.before.before.before letter.Await c.before.enum-told6.given.1 in
     record { fits = omega (arith, n.inside) }
 
-payoff_code_link_requires_3 : (t : ℕ) → payoff-code-lts.Need-link-requires-3 (payoff_code_calls t) (payoff_code_at t) payoff-code.Post
-payoff_code_link_requires_3 t c κs =
-    let n = payoff_code_here t c.before.before.before letter.Await c.before.enum-told6.given.1 in
-    (n.inside, omega arith, n.stands.1.0)
-
 payoff_code_wait_for_requires : (t : ℕ) → payoff-code-lts.Need-wait-for-requires (payoff_code_calls t) (payoff_code_at t) payoff-code.Post
 unfolding FieldsIn
 payoff_code_wait_for_requires t c κs =
-    let s = c.before.before.before.before.before in
+    let s = c.before.before.before.before in
     let h = s.requires.1 in
-    let n = payoff_code_here t c.before.before.before.before letter.Await c.before.before.enum-told6.given.1 in
-    let i = payoff_inside _ _ _ n.stands.1.1 in
-    rw c.link3.ensures (h.0, parts.await_months n h.2 c.before.delay.ensures, n.stands.0, n.range.1, n.blocks.0, omega (arith, i.0), omega (arith, i.1))
+    let n = payoff_code_here t c.before.before.before letter.Await c.before.enum-told6.given.1 in
+    (h.0, parts.await_months n h.2 c.delay.ensures, n.stands.0, n.range.1)
 
-payoff_code_link_requires_4 : (t : ℕ) → payoff-code-lts.Need-link-requires-4 (payoff_code_calls t) (payoff_code_at t) payoff-code.Post
-payoff_code_link_requires_4 t c κs =
-    let n = payoff_code_here t c.before.before.before.before.before.before.before.before letter.Await c.before.before.before.before.before.before.enum-told6.given.1 in
+payoff_code_link_requires_3 : (t : ℕ) → payoff-code-lts.Need-link-requires-3 (payoff_code_calls t) (payoff_code_at t) payoff-code.Post
+payoff_code_link_requires_3 t c κs =
+    let n = payoff_code_here t c.before.before.before.before.before.before.before letter.Await c.before.before.before.before.before.enum-told6.given.1 in
     (n.inside, omega arith, n.stands.1.0)
 
 payoff_code_sub_payoff_code_4 : (t : ℕ) → payoff-code-lts.Need-overflow-sub-payoff-code-4 (payoff_code_calls t) (payoff_code_at t) payoff-code.Post
 payoff_code_sub_payoff_code_4 t c =
-    let n = payoff_code_here t c.before.before.before.before.before.before.before.before.before letter.Await c.before.before.before.before.before.before.before.enum-told6.given.1 in
+    let n = payoff_code_here t c.before.before.before.before.before.before.before.before letter.Await c.before.before.before.before.before.before.enum-told6.given.1 in
     omega (arith, n.some)
 
 payoff_code_payoff_code_requires_4 : (t : ℕ) → payoff-code-lts.Need-payoff-code-requires-4 (payoff_code_calls t) (payoff_code_at t) payoff-code.Post
 unfolding FieldsIn
 payoff_code_payoff_code_requires_4 t c κs =
-    let s = c.before.before.before.before.before.before.before.before.before.before in
+    let s = c.before.before.before.before.before.before.before.before.before in
     let h = s.requires.1 in
-    let n = payoff_code_here t c.before.before.before.before.before.before.before.before.before letter.Await c.before.before.before.before.before.before.before.enum-told6.given.1 in
+    let n = payoff_code_here t c.before.before.before.before.before.before.before.before letter.Await c.before.before.before.before.before.before.enum-told6.given.1 in
     let e = sym (ap wait_answer c.before.before.w.given.1) ∙ c.before.before.before.before.wait-for.ensures.0 in
     let k = subst WaitKnown c.before.before.w.given.1 c.before.before.before.before.wait-for.ensures.1 in
     let l = parts.waits_within _ _ _ (hit (nat_of c.before.before.w.given.0.0.0)) (sym e) in
-    (omega (arith, n.some), rw c.link4.ensures (h.0, h.1, parts.part_waited n h.2 c.before.before.before.before.before.before.delay.ensures k l, h.3, h.4, n.stands.1.1, n.range.2, n.blocks.1))
+    (omega (arith, n.some), rw c.link3.ensures (h.0, h.1, parts.part_waited n h.2 c.before.before.before.before.before.delay.ensures k l, h.3, h.4, n.stands.1.1, n.range.2, n.blocks.1))
 
-payoff_code_link_requires_5 : (t : ℕ) → payoff-code-lts.Need-link-requires-5 (payoff_code_calls t) (payoff_code_at t) payoff-code.Post
-payoff_code_link_requires_5 t c κs =
-    let n = payoff_code_here t c.before.before.before.before.before.before.before.before letter.Await c.before.before.before.before.before.before.enum-told6.given.1 in
+payoff_code_link_requires_4 : (t : ℕ) → payoff-code-lts.Need-link-requires-4 (payoff_code_calls t) (payoff_code_at t) payoff-code.Post
+payoff_code_link_requires_4 t c κs =
+    let n = payoff_code_here t c.before.before.before.before.before.before.before letter.Await c.before.before.before.before.before.enum-told6.given.1 in
     (n.inside, omega arith, n.stands.2.0)
 
 payoff_code_sub_payoff_code_5 : (t : ℕ) → payoff-code-lts.Need-overflow-sub-payoff-code-5 (payoff_code_calls t) (payoff_code_at t) payoff-code.Post
 payoff_code_sub_payoff_code_5 t c =
-    let n = payoff_code_here t c.before.before.before.before.before.before.before.before.before letter.Await c.before.before.before.before.before.before.before.enum-told6.given.1 in
+    let n = payoff_code_here t c.before.before.before.before.before.before.before.before letter.Await c.before.before.before.before.before.before.enum-told6.given.1 in
     omega (arith, n.some)
 
 payoff_code_payoff_code_requires_5 : (t : ℕ) → payoff-code-lts.Need-payoff-code-requires-5 (payoff_code_calls t) (payoff_code_at t) payoff-code.Post
 unfolding FieldsIn
 payoff_code_payoff_code_requires_5 t c κs =
-    let s = c.before.before.before.before.before.before.before.before.before.before in
+    let s = c.before.before.before.before.before.before.before.before.before in
     let h = s.requires.1 in
-    let n = payoff_code_here t c.before.before.before.before.before.before.before.before.before letter.Await c.before.before.before.before.before.before.before.enum-told6.given.1 in
+    let n = payoff_code_here t c.before.before.before.before.before.before.before.before letter.Await c.before.before.before.before.before.before.enum-told6.given.1 in
     let e = sym (ap wait_answer c.before.before.w2.given.1) ∙ c.before.before.before.before.wait-for.ensures.0 in
     let k = subst WaitKnown c.before.before.w2.given.1 c.before.before.before.before.wait-for.ensures.1 in
     let l = parts.waits_within _ _ _ (miss (nat_of c.before.before.w2.given.0.0.0)) (sym e) in
-    (omega (arith, n.some), rw c.link5.ensures (h.0, h.1, parts.part_waited n h.2 c.before.before.before.before.before.before.delay.ensures k l, h.3, h.4, n.stands.2.1, n.range.3, n.blocks.2))
+    (omega (arith, n.some), rw c.link4.ensures (h.0, h.1, parts.part_waited n h.2 c.before.before.before.before.before.delay.ensures k l, h.3, h.4, n.stands.2.1, n.range.3, n.blocks.2))
 
-payoff_code_stopped_is : (t : ℕ) (c : payoff-code-lts.After-known-told3 (payoff_code_calls t) (payoff_code_at t) payoff-code.Post) → refused (number_of c.before.w3.given.0.0) ≡ payoff_code_whole t c.before.before.before.before.before.before.before.before.before
+payoff_code_stopped_is : (t : ℕ) (c : payoff-code-lts.After-known-told3 (payoff_code_calls t) (payoff_code_at t) payoff-code.Post) → refused (number_of c.before.w3.given.0.0) ≡ payoff_code_whole t c.before.before.before.before.before.before.before.before
 payoff_code_stopped_is t c =
-    let s = c.before.before.before.before.before.before.before.before.before in
+    let s = c.before.before.before.before.before.before.before.before in
     let a = s.args in
-    let n = payoff_code_here t c.before.before.before.before.before.before.before.before letter.Await c.before.before.before.before.before.before.enum-told6.given.1 in
+    let n = payoff_code_here t c.before.before.before.before.before.before.before letter.Await c.before.before.before.before.before.enum-told6.given.1 in
     let e = sym (ap wait_answer c.before.w3.given.1) ∙ c.before.before.before.wait-for.ensures.0 in
-    arms.stopped_arm a.h.0 a.f.0 a.factors.now.now a.bounds.now.now a.values.now.now a.pair.p a.pair.q _ _ _ _ _ n c.before.before.before.before.before.delay.ensures e
+    arms.stopped_arm a.h.0 a.f.0 a.factors.now.now a.bounds.now.now a.values.now.now a.pair.p a.pair.q _ _ _ _ _ n c.before.before.before.before.delay.ensures e
 
 payoff_code_code_requires_5 : (t : ℕ) → payoff-code-lts.Need-code-requires-5 (payoff_code_calls t) (payoff_code_at t) payoff-code.Post
-payoff_code_code_requires_5 t c κs = payoff_code_codable t c.before.before.before.before.before.before.before.before.before (payoff_code_stopped_is t c)
+payoff_code_code_requires_5 t c κs = payoff_code_codable t c.before.before.before.before.before.before.before.before (payoff_code_stopped_is t c)
 
 payoff_code_returns : (t : ℕ) → payoff-code-lts.Need-returns (payoff_code_calls t) (payoff_code_at t) payoff-code.Post
 payoff_code_returns t c =
@@ -335,21 +329,21 @@ payoff_code_returns_5 t c =
 
 payoff_code_returns_6 : (t : ℕ) → payoff-code-lts.Need-returns-6 (payoff_code_calls t) (payoff_code_at t) payoff-code.Post
 payoff_code_returns_6 t c =
-    let s = c.before.before.before.before.before.before.before.before.before.before.before in
+    let s = c.before.before.before.before.before.before.before.before.before.before in
     let a = s.args in
     let f : SFits w64 c.payoff-code4.result = search rules in
-    let n = payoff_code_here t c.before.before.before.before.before.before.before.before.before.before letter.Await c.before.before.before.before.before.before.before.before.enum-told6.given.1 in
+    let n = payoff_code_here t c.before.before.before.before.before.before.before.before.before letter.Await c.before.before.before.before.before.before.before.enum-told6.given.1 in
     let e = sym (ap wait_answer c.before.before.before.w.given.1) ∙ c.before.before.before.before.before.wait-for.ensures.0 in
-    arms.held_arm a.h.0 a.f.0 a.factors.now.now a.bounds.now.now a.values.now.now a.pair.p a.pair.q _ _ _ _ _ n c.before.before.before.before.before.before.before.delay.ensures e c.before.link4.ensures (ap coded_worth (to_z-of_z f) ∙ c.payoff-code4.ensures)
+    arms.held_arm a.h.0 a.f.0 a.factors.now.now a.bounds.now.now a.values.now.now a.pair.p a.pair.q _ _ _ _ _ n c.before.before.before.before.before.before.delay.ensures e c.before.link3.ensures (ap coded_worth (to_z-of_z f) ∙ c.payoff-code4.ensures)
 
 payoff_code_returns_7 : (t : ℕ) → payoff-code-lts.Need-returns-7 (payoff_code_calls t) (payoff_code_at t) payoff-code.Post
 payoff_code_returns_7 t c =
-    let s = c.before.before.before.before.before.before.before.before.before.before.before in
+    let s = c.before.before.before.before.before.before.before.before.before.before in
     let a = s.args in
     let f : SFits w64 c.payoff-code5.result = search rules in
-    let n = payoff_code_here t c.before.before.before.before.before.before.before.before.before.before letter.Await c.before.before.before.before.before.before.before.before.enum-told6.given.1 in
+    let n = payoff_code_here t c.before.before.before.before.before.before.before.before.before letter.Await c.before.before.before.before.before.before.before.enum-told6.given.1 in
     let e = sym (ap wait_answer c.before.before.before.w2.given.1) ∙ c.before.before.before.before.before.wait-for.ensures.0 in
-    arms.missed_arm a.h.0 a.f.0 a.factors.now.now a.bounds.now.now a.values.now.now a.pair.p a.pair.q _ _ _ _ _ n c.before.before.before.before.before.before.before.delay.ensures e c.before.link5.ensures (ap coded_worth (to_z-of_z f) ∙ c.payoff-code5.ensures)
+    arms.missed_arm a.h.0 a.f.0 a.factors.now.now a.bounds.now.now a.values.now.now a.pair.p a.pair.q _ _ _ _ _ n c.before.before.before.before.before.before.delay.ensures e c.before.link4.ensures (ap coded_worth (to_z-of_z f) ∙ c.payoff-code5.ensures)
 
 payoff_code_returns_8 : (t : ℕ) → payoff-code-lts.Need-returns-8 (payoff_code_calls t) (payoff_code_at t) payoff-code.Post
 payoff_code_returns_8 t c =
@@ -398,14 +392,13 @@ payoff_code_part t =
     (λ c. search rules)
     (payoff_code_delay_requires t)
     (payoff_code_add_wait_for t)
-    (payoff_code_link_requires_3 t)
     (payoff_code_wait_for_requires t)
     (λ c. search rules)
-    (payoff_code_link_requires_4 t)
+    (payoff_code_link_requires_3 t)
     (payoff_code_sub_payoff_code_4 t)
     (payoff_code_payoff_code_requires_4 t)
     (λ c. search rules)
-    (payoff_code_link_requires_5 t)
+    (payoff_code_link_requires_4 t)
     (payoff_code_sub_payoff_code_5 t)
     (payoff_code_payoff_code_requires_5 t)
     (λ c. search rules)

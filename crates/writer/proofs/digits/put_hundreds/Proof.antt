@@ -1,7 +1,7 @@
 -- `digits::put_hundreds` meets its contract.
 use Prim.Native.Nat.{◌%◌, ◌*◌, ◌+◌, ◌/◌, ◌<◌, ℕ}
 use borrow.Author.Rules.{rules}
-use lib.ListN.{length, length_set, set}
+use lib.ListN.{length, length-set, set}
 use mathlib.Core.List.{List}
 use mathlib.Core.Path.{◌∙◌, ◌≡◌, ap, subst, sym}
 use native.Mathlib.Omega.{arith}
@@ -45,7 +45,7 @@ put_pair_requires : tie.Need-put-pair-requires
 put_pair_requires c κs =
     let s = c.before.before.before in (
       s.requires.1,
-      omega (arith, three_digits (100 * s.args.hundreds + s.args.over) (omega (arith, c.before.if1.false)) (omega (arith, s.requires.0, s.requires.1)), s.requires.2, length_set s.args.out.now s.args.at (48 + s.args.hundreds)),
+      omega (arith, three_digits (100 * s.args.hundreds + s.args.over) (omega (arith, c.before.if1.false)) (omega (arith, s.requires.0, s.requires.1)), s.requires.2, length-set s.args.out.now s.args.at (48 + s.args.hundreds)),
       s.requires.3,
     )
 
@@ -61,7 +61,7 @@ returns c n e =
 same_length_2 : tie.Need-same-length-2
 same_length_2 c =
     let s = c.before.before.before.before.before.before in
-    kept c.before.before.put-pair.ensures ∙ length_set s.args.out.now s.args.at (48 + s.args.hundreds)
+    kept c.before.before.put-pair.ensures ∙ length-set s.args.out.now s.args.at (48 + s.args.hundreds)
 
 returns_2 : tie.Need-returns-2
 returns_2 c n e =

@@ -1,6 +1,6 @@
 -- `digits::put_number` meets its contract.
 use borrow.Author.Rules.{rules}
-use lib.ListN.{length, length_set}
+use lib.ListN.{length, length-set}
 use mathlib.Core.List.{◌∷◌}
 use mathlib.Core.Path.{◌∙◌, ◌≡◌, ap, sym}
 use mir.Syntax.{w64}
@@ -42,14 +42,14 @@ add_put_digits c = search rules
 put_digits_requires : tie.Need-put-digits-requires
 put_digits_requires c κs = (
   c.before.before.magnitude.ensures.1,
-  simp length_set (omega (arith, ap length (below c.before), c.before.before.before.before.before.requires.1)),
+  simp length-set (omega (arith, ap length (below c.before), c.before.before.before.before.before.requires.1)),
 )
 
 put_digits_requires_2 : tie.Need-put-digits-requires-2
 put_digits_requires_2 c κs = (c.before.before.magnitude.ensures.1, room_as _ _ _ _ (above c.before) c.before.before.before.before.before.requires.1)
 
 same_length : tie.Need-same-length
-same_length c = c.before.before.put-digits.auto.1.0 ∙ simp length_set
+same_length c = c.before.before.put-digits.auto.1.0 ∙ simp length-set
 
 returns : tie.Need-returns
 returns c = said (sym (below c.before.before.before.before)) (then (one _ _ _) c.before.before.put-digits.ensures)

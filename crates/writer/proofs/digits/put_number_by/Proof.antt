@@ -1,6 +1,6 @@
 -- `digits::put_number_by` meets its contract.
 use borrow.Author.Rules.{rules}
-use lib.ListN.{length, length_set}
+use lib.ListN.{length, length-set}
 use mathlib.Core.List.{◌∷◌}
 use mathlib.Core.Path.{◌∙◌, ◌≡◌, ap, sym}
 use mir.Syntax.{w64}
@@ -42,7 +42,7 @@ add_put_by_pairs c = search rules
 put_by_pairs_requires : tie.Need-put-by-pairs-requires
 put_by_pairs_requires c κs = (
   c.before.before.magnitude.ensures.1,
-  simp length_set (omega (arith, ap length (below c.before), c.before.before.before.before.before.requires.1)),
+  simp length-set (omega (arith, ap length (below c.before), c.before.before.before.before.before.requires.1)),
   c.before.before.before.before.before.requires.2,
 )
 
@@ -50,7 +50,7 @@ put_by_pairs_requires_2 : tie.Need-put-by-pairs-requires-2
 put_by_pairs_requires_2 c κs = (c.before.before.magnitude.ensures.1, room_as _ _ _ _ (above c.before) c.before.before.before.before.before.requires.1, c.before.before.before.before.before.requires.2)
 
 same_length : tie.Need-same-length
-same_length c = c.before.before.put-by-pairs.auto.1.1.0 ∙ simp length_set
+same_length c = c.before.before.put-by-pairs.auto.1.1.0 ∙ simp length-set
 
 returns : tie.Need-returns
 returns c = said (sym (below c.before.before.before.before)) (then (one _ _ _) c.before.before.put-by-pairs.ensures)

@@ -1,6 +1,6 @@
 -- `digits::put_pair` meets its contract.
 use borrow.Author.Rules.{rules}
-use lib.ListN.{length_set}
+use lib.ListN.{length-set}
 use native.Mathlib.Omega.{arith}
 use Rattle.writer.proofs.Pairs.{pair_put}
 use Rattle.writer.proofs.digits.put_pair.Statement.{statement}
@@ -25,7 +25,7 @@ add_out : tie.Need-overflow-add-out
 add_out c = search rules
 
 slice_write_out_2 : tie.Need-slice-write-out-2
-slice_write_out_2 c = simp length_set (omega (arith, c.before.before.requires.1))
+slice_write_out_2 c = simp length-set (omega (arith, c.before.before.requires.1))
 
 add_result : tie.Need-overflow-add-result
 add_result c = search rules

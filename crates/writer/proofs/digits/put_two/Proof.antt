@@ -1,6 +1,6 @@
 -- `digits::put_two` meets its contract.
 use borrow.Author.Rules.{rules}
-use lib.ListN.{length_set}
+use lib.ListN.{length-set}
 use native.Mathlib.Omega.{arith}
 use Rattle.writer.proofs.Puts.{pair}
 use Rattle.writer.proofs.digits.put_two.Statement.{statement}
@@ -25,7 +25,7 @@ add_out_3 : tie.Need-overflow-add-out-3
 add_out_3 c = search rules
 
 slice_write_out_2 : tie.Need-slice-write-out-2
-slice_write_out_2 c = simp length_set (omega (arith, c.requires.1))
+slice_write_out_2 c = simp length-set (omega (arith, c.requires.1))
 
 add_result : tie.Need-overflow-add-result
 add_result c = search rules

@@ -1,7 +1,7 @@
 -- `fields::put_delay` meets its contract.
 use Prim.Native.Nat.{◌%◌, ◌+◌, ◌-◌}
 use borrow.Author.Rules.{rules}
-use lib.ListN.{length, length_set}
+use lib.ListN.{length, length-set}
 use mathlib.Core.List.{[], ◌∷◌}
 use mathlib.Core.Path.{◌∙◌, ◌≡◌, ap, sym}
 use mir.Syntax.{w64}
@@ -42,7 +42,7 @@ add_out : tie.Need-overflow-add-out
 add_out c = search rules
 
 slice_write_out_2 : tie.Need-slice-write-out-2
-slice_write_out_2 c = simp length_set (omega (arith, ap length (below c), c.before.before.before.before.requires.1))
+slice_write_out_2 c = simp length-set (omega (arith, ap length (below c), c.before.before.before.before.requires.1))
 
 sub_out : tie.Need-overflow-sub-out
 sub_out c = some_below _ (fits c.before.before) _ c.before.magnitude.ensures.0 c.if1.true
@@ -57,7 +57,7 @@ add_out_3 : tie.Need-overflow-add-out-3
 add_out_3 c = search rules
 
 slice_write_out_3 : tie.Need-slice-write-out-3
-slice_write_out_3 c = simp length_set (omega (arith, ap length (below c), c.before.before.before.before.requires.1))
+slice_write_out_3 c = simp length-set (omega (arith, ap length (below c), c.before.before.before.before.requires.1))
 
 add_result : tie.Need-overflow-add-result
 add_result c = search rules
@@ -68,7 +68,7 @@ add_put_digits c = search rules
 put_digits_requires : tie.Need-put-digits-requires
 put_digits_requires c κs = (
   c.before.before.magnitude.ensures.1,
-  simp length_set (omega (arith, ap length (above c.before), c.before.before.before.before.before.requires.1)),
+  simp length-set (omega (arith, ap length (above c.before), c.before.before.before.before.before.requires.1)),
 )
 
 same_length : tie.Need-same-length
@@ -78,7 +78,7 @@ returns : tie.Need-returns
 returns c = said (sym (ap (λ t. 44 ∷ t) (below c))) (three _ _ _ _ _)
 
 same_length_2 : tie.Need-same-length-2
-same_length_2 c = c.before.before.put-digits.auto.1.0 ∙ simp length_set
+same_length_2 c = c.before.before.put-digits.auto.1.0 ∙ simp length-set
 
 returns_2 : tie.Need-returns-2
 returns_2 c = said (sym (ap (λ t. 44 ∷ t) (above c.before.before.before.before))) (then (one _ _ _) c.before.before.put-digits.ensures)

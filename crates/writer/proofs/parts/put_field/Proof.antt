@@ -1,6 +1,6 @@
 -- `fields::put_field` meets its contract.
 use borrow.Author.Rules.{rules}
-use lib.ListN.{length, length_set}
+use lib.ListN.{length, length-set}
 use mathlib.Core.Path.{◌∙◌, ap, sym}
 use native.Mathlib.Omega.{arith}
 use Rattle.writer.proofs.Numbers.{digit_text}
@@ -22,22 +22,22 @@ put_digit_requires : tie.Need-put-digit-requires
 put_digit_requires c κs =
     let s = c.before.before.before.before in
     let e = sym c.before.before.is_digit.ensures ∙ c.before.if1.true in
-    (s.requires.0, e, simp length_set (omega (arith, ap length (digit_text (slot s.args.nodes.now s.args.k) e), s.requires.1)))
+    (s.requires.0, e, simp length-set (omega (arith, ap length (digit_text (slot s.args.nodes.now s.args.k) e), s.requires.1)))
 
 add_put_number : tie.Need-overflow-add-put-number
 add_put_number c = search rules
 
 put_number_requires : tie.Need-put-number-requires
-put_number_requires c κs = (c.before.before.before.before.requires.0, simp length_set (omega (arith, c.before.before.before.before.requires.1)))
+put_number_requires c κs = (c.before.before.before.before.requires.0, simp length-set (omega (arith, c.before.before.before.before.requires.1)))
 
 same_length : tie.Need-same-length
-same_length c = c.before.before.put-digit.auto.1.1.0 ∙ simp length_set
+same_length c = c.before.before.put-digit.auto.1.1.0 ∙ simp length-set
 
 returns : tie.Need-returns
 returns c = then (one _ _ _) c.before.before.put-digit.ensures
 
 same_length_2 : tie.Need-same-length-2
-same_length_2 c = c.before.before.put-number.auto.1.1.0 ∙ simp length_set
+same_length_2 c = c.before.before.put-number.auto.1.1.0 ∙ simp length-set
 
 returns_2 : tie.Need-returns-2
 returns_2 c = then (one _ _ _) c.before.before.put-number.ensures

@@ -1,6 +1,6 @@
 -- `fields::put_figure` meets its contract.
 use borrow.Author.Rules.{rules}
-use lib.ListN.{length_set}
+use lib.ListN.{length-set}
 use mathlib.Core.Path.{◌∙◌, sym}
 use native.Mathlib.Omega.{arith}
 use Rattle.writer.proofs.Puts.{kept, one, then}
@@ -19,22 +19,22 @@ add_put_few c = search rules
 put_few_requires : tie.Need-put-few-requires
 put_few_requires c κs =
     let s = c.before.before.before.before in
-    (s.requires.0, sym c.before.before.is_short.ensures ∙ c.before.if1.true, simp length_set (omega (arith, s.requires.1)))
+    (s.requires.0, sym c.before.before.is_short.ensures ∙ c.before.if1.true, simp length-set (omega (arith, s.requires.1)))
 
 add_put_number : tie.Need-overflow-add-put-number
 add_put_number c = search rules
 
 put_number_requires : tie.Need-put-number-requires
-put_number_requires c κs = (c.before.before.before.before.requires.0, simp length_set (omega (arith, c.before.before.before.before.requires.1)))
+put_number_requires c κs = (c.before.before.before.before.requires.0, simp length-set (omega (arith, c.before.before.before.before.requires.1)))
 
 same_length : tie.Need-same-length
-same_length c = c.before.before.put-few.auto.1.1.0 ∙ simp length_set
+same_length c = c.before.before.put-few.auto.1.1.0 ∙ simp length-set
 
 returns : tie.Need-returns
 returns c = then (one _ _ _) c.before.before.put-few.ensures
 
 same_length_2 : tie.Need-same-length-2
-same_length_2 c = c.before.before.put-number.auto.1.1.0 ∙ simp length_set
+same_length_2 c = c.before.before.put-number.auto.1.1.0 ∙ simp length-set
 
 returns_2 : tie.Need-returns-2
 returns_2 c = then (one _ _ _) c.before.before.put-number.ensures

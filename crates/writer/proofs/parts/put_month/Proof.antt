@@ -2,7 +2,7 @@
 use Prim.Native.Nat.{◌+◌, ◌≤◌, ℕ}
 use borrow.Author.Rules.{rules}
 use lib.IntN.{nat_abs, ℤ}
-use lib.ListN.{length, length_set, set}
+use lib.ListN.{length, length-set, set}
 use mathlib.Core.List.{◌++◌, ◌∷◌}
 use mathlib.Core.Path.{◌∙◌, ◌≡◌, ap, refl, sym}
 use native.Mathlib.Omega.{arith}
@@ -53,7 +53,7 @@ put_settings_requires c κs = let s : tie.Start = c.before.before.before.before.
     room_next _ (room_behind s _ c.before.magnitude.ensures.0) c.before.before.before.before.put-number.ensures
 
 same_length : tie.Need-same-length
-same_length c = c.before.before.put-settings.auto.1.0 ∙ c.before.before.before.before.before.before.before.put-number.auto.1.1.0 ∙ simp length_set
+same_length c = c.before.before.put-settings.auto.1.0 ∙ c.before.before.before.before.before.before.before.put-number.auto.1.1.0 ∙ simp length-set
 
 returns : tie.Need-returns
 returns c = let s : tie.Start = c.before.before.before.before.before.before.before.before.before.before in

@@ -1,6 +1,6 @@
 -- `fields::put_setting` meets its contract. The invariant: i settings are written.
 use Prim.Native.Nat.{◌-◌}
-use lib.ListN.{length_set}
+use lib.ListN.{length-set}
 use native.Mathlib.Omega.{arith}
 use Rattle.writer.proofs.Puts.{kept}
 use Rattle.writer.proofs.SettingTexts.{Copying, copying_ends, copying_on, copying_room, copying_starts}
@@ -25,7 +25,7 @@ add_out c = record {
 }
 
 slice_write_out_2 : tie.Need-slice-write-out-2 invariant_loop decreases_loop
-slice_write_out_2 c = simp length_set (omega (arith, copying_room _ _ _ _ _ _ _ c.before.loop.invariant c.before.before.requires.1 c.loop-test.true))
+slice_write_out_2 c = simp length-set (omega (arith, copying_room _ _ _ _ _ _ _ c.before.loop.invariant c.before.before.requires.1 c.loop-test.true))
 
 add_out_2 : tie.Need-overflow-add-out-2 invariant_loop decreases_loop
 add_out_2 c = record { fits = omega (arith, c.before.before.requires.0) }
@@ -36,7 +36,7 @@ add_out_3 c = record {
 }
 
 slice_write_out_3 : tie.Need-slice-write-out-3 invariant_loop decreases_loop
-slice_write_out_3 c = simp length_set (omega (arith, copying_room _ _ _ _ _ _ _ c.before.loop.invariant c.before.before.requires.1 c.loop-test.true))
+slice_write_out_3 c = simp length-set (omega (arith, copying_room _ _ _ _ _ _ _ c.before.loop.invariant c.before.before.requires.1 c.loop-test.true))
 
 add_place : tie.Need-overflow-add-place invariant_loop decreases_loop
 add_place c = record {

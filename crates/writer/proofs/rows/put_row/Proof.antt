@@ -2,7 +2,7 @@
 use Prim.Native.Nat.{◌+◌, ◌≤◌, ℕ}
 use borrow.Author.Rules.{rules}
 use lib.IntN.{ℤ}
-use lib.ListN.{drop, length, length_set, set}
+use lib.ListN.{drop, length, length-set, set}
 use mathlib.Core.List.{List, [], ◌++◌, ◌∷◌}
 use mathlib.Core.Path.{◌∙◌, ◌≡◌, refl, sym}
 use native.Mathlib.Omega.{arith}
@@ -129,14 +129,14 @@ returns c = let s : tie.After-shape-at = c.before.before in
     said (sym (text s Bare c.enum_told.given.1)) (one _ _ _)
 
 same_length_2 : tie.Need-same-length-2
-same_length_2 c = c.before.before.put-figure.auto.1.1.0 ∙ simp length_set
+same_length_2 c = c.before.before.put-figure.auto.1.1.0 ∙ simp length-set
 
 returns_2 : tie.Need-returns-2
 returns_2 c = let s : tie.After-shape-at = c.before.before.before.before.before.before in
     said (sym (text s Number c.before.before.before.before.enum-told2.given.1)) (then (one _ _ _) (then c.before.before.put-figure.ensures none))
 
 same_length_3 : tie.Need-same-length-3
-same_length_3 c = c.before.before.put-field2.auto.1.1.0 ∙ c.before.before.before.before.before.before.put-field.auto.1.1.0 ∙ simp length_set
+same_length_3 c = c.before.before.put-field2.auto.1.1.0 ∙ c.before.before.before.before.before.before.put-field.auto.1.1.0 ∙ simp length-set
 
 returns_3 : tie.Need-returns-3
 returns_3 c = let s : tie.After-shape-at = c.before.before.before.before.before.before.before.before.before.before in
@@ -144,21 +144,21 @@ returns_3 c = let s : tie.After-shape-at = c.before.before.before.before.before.
     (then (one _ _ _) (then c.before.before.before.before.before.before.put-field.ensures (then c.before.before.put-field2.ensures none)))
 
 same_length_4 : tie.Need-same-length-4
-same_length_4 c = c.before.before.put-delay.auto.1.1.0 ∙ simp length_set
+same_length_4 c = c.before.before.put-delay.auto.1.1.0 ∙ simp length-set
 
 returns_4 : tie.Need-returns-4
 returns_4 c = let s : tie.After-shape-at = c.before.before.before.before.before.before in
     said (sym (text s Wait c.before.before.before.before.enum-told4.given.1)) (then (one _ _ _) (then c.before.before.put-delay.ensures none))
 
 same_length_5 : tie.Need-same-length-5
-same_length_5 c = c.before.before.put-index.auto.1.1.0 ∙ simp length_set
+same_length_5 c = c.before.before.put-index.auto.1.1.0 ∙ simp length-set
 
 returns_5 : tie.Need-returns-5
 returns_5 c = let s : tie.After-shape-at = c.before.before.before.before.before.before in
     said (sym (text s Index c.before.before.before.before.enum-told5.given.1)) (then (one _ _ _) (said (sym (index_parts_lem (nodes s) (j s))) c.before.before.put-index.ensures))
 
 same_length_6 : tie.Need-same-length-6
-same_length_6 c = c.before.before.put-leaf.auto.1.1.0 ∙ simp length_set
+same_length_6 c = c.before.before.put-leaf.auto.1.1.0 ∙ simp length-set
 
 returns_6 : tie.Need-returns-6
 returns_6 c = let s : tie.After-shape-at = c.before.before.before.before.before.before in

@@ -1,0 +1,20 @@
+use borrow.Author.Rules.{rules}
+use borrow.Author.Tests.{eqb-true}
+use lib.Signed.{lt_z}
+use Rattle.language.proofs.Truth.{and_e}
+use Rattle.checked.proofs.FourLaws.{tested}
+use Rattle.checked.proofs.four.less_than.Statement.{statement}
+use Rattle.checked.proofs.four.less_than.Tie as tie
+
+returns : tie.Need-returns
+returns c =
+    λ e.
+    let b = and_e _ _ e in
+    (eqb-true _ _ b.0, eqb-true _ _ b.1, λ k l. tested lt_z _ _ (c.less.ensures k l))
+
+pub less_than_spec : {M : Type 1} → statement M
+less_than_spec =
+    tie.close
+    (tie.spec
+    (λ c κs. search rules)
+    returns)

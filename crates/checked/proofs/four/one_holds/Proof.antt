@@ -1,0 +1,19 @@
+use borrow.Author.Rules.{rules}
+use mathlib.Core.Bool.{◌||◌}
+use Rattle.language.proofs.Truth.{and_e}
+use Rattle.checked.proofs.FourLaws.{tested}
+use Rattle.checked.proofs.four.one_holds.Statement.{statement}
+use Rattle.checked.proofs.four.one_holds.Tie as tie
+
+returns : tie.Need-returns
+returns c =
+    λ e.
+    let b = and_e _ _ e in
+    (b.0, b.1, λ k l. tested ◌||◌ _ _ (c.either.ensures k l))
+
+pub one_holds_spec : {M : Type 1} → statement M
+one_holds_spec =
+    tie.close
+    (tie.spec
+    (λ c κs. search rules)
+    returns)

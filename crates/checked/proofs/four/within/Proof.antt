@@ -1,0 +1,15 @@
+use borrow.Author.Rules.{rules}
+use mir.Facts.{to_z-of_z}
+use mir.Syntax.{w64}
+use mir.Val.{SFits}
+use Rattle.checked.proofs.FourLaws.{between_small}
+use Rattle.checked.proofs.four.within.Statement.{statement}
+use Rattle.checked.proofs.four.within.Tie as tie
+
+returns : tie.Need-returns
+returns c =
+    let f : SFits w64 c.before.before.before.before.args.x.0 = search rules in
+    λ e. between_small _ (rw (to_z-of_z f) at e)
+
+pub within_spec : {M : Type 1} → statement M
+within_spec = tie.close (tie.spec returns)

@@ -1,3 +1,0 @@
--- What a plan's text pays, proved.
-mod Amounts
-mod Paying

@@ -1,2 +1,0 @@
--- What a plan's text pays, found as it is read.
-pub mod Pays
