@@ -8,14 +8,14 @@
 #   make uninstall PREFIX= DESTDIR=
 #   make clean
 #
-# LIB=FILE takes a library that is built already, in place of `rt staticlib unit`.
+# LIB=FILE takes a library that is built already, in place of crates/unit/out/libunit.a.
 # OBJCOPY= names another objcopy; it has to know --set-section-alignment, as GNU's does since 2.33.
 .POSIX:
 
 VERSION = 0.1.0
 PREFIX = /usr/local
 DESTDIR =
-LIB = target/staticlib/libunit.a
+LIB = crates/unit/out/libunit.a
 CC = cc
 CXX = c++
 OBJCOPY = objcopy
@@ -23,12 +23,12 @@ CFLAGS = -O2
 CXXFLAGS = -O2
 
 STRICT = -Wall -Wextra -Werror -pedantic
-SOURCES != find crates crates.txt -type f
+SOURCES != find crates crates.txt -name out -prune -o -type f -print
 
 all: build/libcodhungu.a build/codhungu.pc
 
-target/staticlib/libunit.a: $(SOURCES)
-	rt staticlib unit
+crates/unit/out/libunit.a: $(SOURCES)
+	cd crates/unit && rt lib
 	touch $@
 
 # The same code, each function at the start of a cache line: where the compiler puts it moves a loop's time by up to 7 %.

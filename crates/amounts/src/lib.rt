@@ -1,4 +1,6 @@
 // Amounts and tests, worked out in the node table without checks.
+#![tactic(auto)]
+
 ghost use Rattle.std.specs.Prelude.{◌≡◌};
 ghost use Rattle.language.specs.Payments.Amounts.{holds, value};
 ghost use Rattle.nodes.specs.Found.{amount_at, offset_of, test_at};

@@ -1,5 +1,7 @@
 // An amount of many rows, worked out in a loop from its last row to its first. A node's parts stand behind it, so their values wait
 // when the loop comes to it.
+#![tactic(auto)]
+
 ghost use Rattle.std.specs.Prelude.{◌≡◌, ◌*◌, ◌≤◌, length};
 ghost use Rattle.amounts.specs.Fine.{Fine, MonthIn};
 ghost use Rattle.amounts.specs.Flat.{flat};

@@ -1,4 +1,6 @@
 // Amounts and tests of a payoff, with refusals 11 and 14 as evaluation meets them.
+#![tactic(auto)]
+
 ghost use Rattle.std.specs.Prelude.{◌≡◌};
 ghost use Rattle.language.specs.Text.Form.{fields_of_amount, fields_of_test};
 ghost use Rattle.nodes.specs.Found.{amount_at, offset_of, test_at};

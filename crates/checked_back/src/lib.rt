@@ -1,5 +1,7 @@
 // An amount of a payoff of many rows, worked out in a loop from its last row to its first, as `backwards` does for accepted plans.
 // Here each read has to be found and each result to be within the limit.
+#![tactic(auto)]
+
 ghost use Rattle.std.specs.Prelude.{◌≡◌, ◌*◌, ◌≤◌, length};
 ghost use Rattle.checked.specs.Checked.{value_found};
 ghost use Rattle.checked.specs.Coded.{valued_in};

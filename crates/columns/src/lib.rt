@@ -1,4 +1,6 @@
 // What a plan pays a pair in each month, filled into a column by one walk over the plan.
+#![tactic(auto)]
+
 ghost use Rattle.amounts.specs.Fine.{MonthIn};
 ghost use Rattle.amounts.specs.Flat.{flat};
 ghost use Rattle.columns.specs.Column.{Added, PennyFits, Weighed, penny_in};

@@ -1,5 +1,7 @@
 // A plan compiled to a payoff, settings open, in the table that the plan was read into.
 // Up to each node the payoff has no more rows than the plan, so a row is written only where the plan's rows have been read.
+#![tactic(auto)]
+
 ghost use Rattle.std.specs.Prelude.{◌*◌, ◌+◌, ◌≤◌, nat_abs, length};
 ghost use Rattle.compiles.specs.Months.{compiled_row};
 ghost use Rattle.compiles.specs.Ready.{Ready};

@@ -1,4 +1,6 @@
 // Rows appended to the first rows of a table.
+#![tactic(auto)]
+
 ghost use Rattle.std.specs.Prelude.{◌≡◌, ◌*◌, ◌+◌, ◌<◌, ◌≤◌, T, pos, length, [], ◌∷◌};
 ghost use Rattle.std.specs.Int.Signed.{non_neg};
 ghost use Rattle.copies.specs.Appended.{Appended};

@@ -161,13 +161,13 @@ module _ (f : List ℕ) where
   pub plain_reads : (c : ℕ) (z : ℤ) → (c ≡ 2 → get_or f 0 0 ≡ 80 → ⊥) → Reads z (class_of c) (range_of c)
   unfolding field_of field_slots delay_slot
   plain_reads c z n =
-      by_class (Reads z) c (held figure z _ _ refl)
+      by_class (Reads z) c (held figure z (neg_ℤ (pos 9000000000000)) (pos 9000000000000) refl)
       (λ q e. record {
         field = a_delay (months (nat_abs z));
         is = rw (no_setting f (n q), e) refl;
         slot = rw (not_below (read_number f) z (pos 600) e) refl;
       })
-      (held label z _ _ refl) (held from_node z _ _ refl) (held divisor z _ _ refl) (held party z _ _ refl)
+      (held label z (pos 0) (pos 7) refl) (held from_node z (neg_ℤ (pos 60)) (pos 600) refl) (held divisor z (pos 1) (pos 9000000000000) refl) (held party z (pos 1) (pos 9) refl)
 
   fails : (k : Class) (lo hi : ℤ) → field_of k f ≡ as_number (ranged lo hi (read_number f)) → ranged lo hi (read_number f) ≡ none → field_of k f ≡ none
   fails k lo hi q e = q ∙ rw e refl
@@ -175,8 +175,8 @@ module _ (f : List ℕ) where
   pub plain_fails : (c : ℕ) → (c ≡ 2 → get_or f 0 0 ≡ 80 → ⊥) → Fails (class_of c) (range_of c)
   unfolding field_of
   plain_fails c n =
-      by_class Fails c (fails figure _ _ refl) (λ q e. rw (no_setting f (n q), e) refl)
-      (fails label _ _ refl) (fails from_node _ _ refl) (fails divisor _ _ refl) (fails party _ _ refl)
+      by_class Fails c (fails figure (neg_ℤ (pos 9000000000000)) (pos 9000000000000) refl) (λ q e. rw (no_setting f (n q), e) refl)
+      (fails label (pos 0) (pos 7) refl) (fails from_node (neg_ℤ (pos 60)) (pos 600) refl) (fails divisor (pos 1) (pos 9000000000000) refl) (fails party (pos 1) (pos 9) refl)
 
   -- every number that is read is a figure, and nothing else is one
   pub figure_reads : (z : ℤ) → nat_abs z ≤ 9000000000000 → read_number f ≡ some z → Held figure f (z ∷ [])
@@ -185,7 +185,7 @@ module _ (f : List ℕ) where
 
   pub figure_fails : BeyondZ (read_number f) → field_of figure f ≡ none
   unfolding range_of field_of
-  figure_fails h = fails figure _ _ refl (ranged_beyond (range_of 1) (limited 1) (read_number f) h)
+  figure_fails h = fails figure (neg_ℤ (pos 9000000000000)) (pos 9000000000000) refl (ranged_beyond (range_of 1) (limited 1) (read_number f) h)
 
   -- and one from 1 on is a divisor
   pub divisor_reads : (z : ℤ) → nat_abs z ≤ 9000000000000 → lt_z z (pos 1) ≡ false → read_number f ≡ some z → Held divisor f (z ∷ [])

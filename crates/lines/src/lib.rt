@@ -1,4 +1,6 @@
 // A sheet's lines, read into lent lists of numbers.
+#![tactic(auto)]
+
 ghost use Rattle.std.specs.Prelude.{◌≡◌, ◌&&◌, ◌≤◌, ltb, ◌+ℤ◌, nat_abs, pos, length};
 ghost use Rattle.integers.specs.Bounded.{Small};
 ghost use Rattle.integers.specs.Equal.{eq_z};

@@ -1,4 +1,6 @@
 // The measures of a filled plan in the node table: length, first and latest, reads, magnitude.
+#![tactic(auto)]
+
 pub mod first;
 pub mod limit;
 pub mod magnitude;

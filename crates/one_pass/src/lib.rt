@@ -1,4 +1,6 @@
 // A plan's text measured as it is read, without a table.
+#![tactic(auto)]
+
 mod amount;
 mod node;
 pub mod packed;

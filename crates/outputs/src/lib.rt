@@ -1,4 +1,6 @@
 // What a program may write of a buffer.
+#![tactic(auto)]
+
 ghost use Rattle.io.specs.Counts.{IsPrefixLen};
 
 // As many bytes as the text has, at most.

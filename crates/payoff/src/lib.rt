@@ -1,4 +1,6 @@
 // Payoffs: compiling, cutting and evaluating.
+#![tactic(auto)]
+
 ghost use Rattle.std.specs.Prelude.{◌≡◌, ◌<◌, ◌≤◌, length, ◌&&◌, false, map, T, pos};
 ghost use Rattle.std.specs.Int.Signed.{non_neg};
 ghost use Rattle.checked.specs.Ranges.{Readable};

@@ -1,4 +1,6 @@
 // Index readings resolved in the node table: each `O` gets the place of its value for month 0.
+#![tactic(auto)]
+
 ghost use Rattle.std.specs.Prelude.{◌≡◌, true, ℕ, ◌+◌, ◌*◌, ◌≤◌, ℤ, length};
 ghost use Rattle.nodes.specs.Pass.{all_rows, map_rows, row_from, with_row};
 ghost use Rattle.nodes.specs.Table.{nat_of};

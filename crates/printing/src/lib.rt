@@ -1,4 +1,6 @@
 // The answer of a sheet as text: counted first, then written.
+#![tactic(auto)]
+
 ghost use Rattle.std.specs.Prelude.{◌≡◌, ◌*◌, ◌+◌, ◌-◌, ◌<◌, ◌≤◌, drop, length, take};
 ghost use Rattle.printing.specs.Lines.{answer_call, answer_text, head_text, month_text, months_text, numbers_text, refusal_call, refusal_text};
 ghost use Rattle.writer.specs.Answers.{written_answer};

@@ -1,4 +1,6 @@
 // Document 01's plan rolled forward three months: the pence paid from party 1 to party 2 in each, and the plan that is then held.
+#![tactic(auto)]
+
 use payments::Stepping;
 
 fn print_pence(pence: i64) {

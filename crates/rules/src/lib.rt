@@ -1,4 +1,6 @@
 // The rules for a plan, in document 01's order.
+#![tactic(auto)]
+
 ghost use Rattle.std.specs.Prelude.{◌≡◌, ◌<◌, true, pos};
 ghost use Rattle.language.specs.Calls.{check_call};
 ghost use Rattle.language.specs.Rules.Table.{are_settings};

@@ -1,4 +1,6 @@
 // A payoff's open settings filled in the node table: months summed, delays filled.
+#![tactic(auto)]
+
 ghost use Rattle.std.specs.Prelude.{◌≡◌, false, true, ◌+◌, ◌*◌, ◌≤◌, pos, get_or, length};
 ghost use Rattle.language.specs.Rules.Table.{are_settings};
 ghost use Rattle.nodes.specs.Pass.{all_rows, row_from};

@@ -1,4 +1,6 @@
 // The sheet as a call on bytes.
+#![tactic(auto)]
+
 ghost use Rattle.std.specs.Prelude.{◌≡◌, ◌&&◌, ◌||◌, List, min, suc, ℕ, ◌<◌, ◌≤◌, leb, nat_abs, pos, length};
 ghost use Rattle.amounts.specs.Flat.{flat};
 ghost use Rattle.columns.specs.Column.{Added, Weighed};

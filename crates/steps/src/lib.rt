@@ -1,5 +1,7 @@
 // The month step: the plan for tomorrow, written into the table in which index readings are resolved. Up to any node it has no more
 // rows than today's, so a row is written only where all that is needed has been read.
+#![tactic(auto)]
+
 ghost use Rattle.std.specs.Prelude.{◌*◌, ◌+◌, ◌<◌, ◌≤◌, pos, length, ◌≡◌};
 ghost use Rattle.amounts.specs.Fine.{MonthIn};
 ghost use Rattle.amounts.specs.Flat.{flat};

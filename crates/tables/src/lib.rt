@@ -1,4 +1,6 @@
 // Settings and tables: whether they keep the rules, and what they hold.
+#![tactic(auto)]
+
 ghost use Rattle.std.specs.Prelude.{◌≡◌, ℕ, ◌+◌, ◌*◌, ◌≤◌, true, ◌&&◌, length, drop, ℤ, pos, ◌==◌, nat_le};
 ghost use Rattle.language.specs.Limits.{max_amount, max_back, max_labels, max_months, one_factor};
 ghost use Rattle.language.specs.Rules.Table.{all_of, is_month, is_a_party, are_settings, is_table, are_bounded};

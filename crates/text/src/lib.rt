@@ -1,4 +1,6 @@
 // Reading a plan's or a payoff's text into the node table.
+#![tactic(auto)]
+
 ghost use Rattle.std.specs.Prelude.{◌≡◌, length};
 ghost use Rattle.language.specs.Text.Letters.{plan_form, payoff_form};
 ghost use Rattle.language.specs.Text.Reader.{text_as_read};

@@ -1,5 +1,7 @@
 // The engine's calls for programs in C. A slice passes as a pointer and a length. Returned is 0 or the refusal's number;
 // `answer` gets the call's numbers, and is too short for them (13) only where nothing else is refused.
+#![tactic(auto)]
+
 ghost use Rattle.std.specs.Prelude.{◌≡◌, pos, leb, cond, ◌∷◌, []};
 ghost use Rattle.language.specs.Calls.{check_call, compile_call, cut_call, evaluate_call, payment_call, step_call};
 ghost use Rattle.language.specs.Sheet.{sheet_call};

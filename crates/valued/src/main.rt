@@ -1,4 +1,6 @@
 // Document 01's plan compiled to its payoff, the payoff cut, and what both are worth to the pair 1, 2 in millionths of a penny.
+#![tactic(auto)]
+
 use payoff::{Evaluating, Writing};
 
 fn print_refused(number: u8) {

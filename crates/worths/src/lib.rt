@@ -1,4 +1,6 @@
 // What a payoff is worth, with refusals 11 and 14 as evaluation meets them.
+#![tactic(auto)]
+
 pub mod answers;
 pub mod coded;
 pub mod fours;

@@ -1,4 +1,6 @@
 // From the node table to text: counts the bytes, then writes them.
+#![tactic(auto)]
+
 ghost use Rattle.std.specs.Prelude.{◌≡◌, ◌*◌, ◌≤◌, length};
 ghost use Rattle.writer.specs.Answers.{write_call, written_answer};
 ghost use Rattle.writer.specs.Put.{Put};

@@ -1,0 +1,9 @@
+use mathlib.Core.Path.{◌∙◌, ap, sym}
+use Rattle.language.proofs.Payoff.Evaluate.{in_range_lem}
+use Rattle.language.specs.Answer.{got}
+use Rattle.language.specs.Limits.{max_amount}
+use borrow.Author.Rules.{rules}
+use Rattle.checked.proofs.rows.number.Goals as goal
+
+pub returns : goal.returns
+returns c = ap got c.number.ensures ∙ sym (in_range_lem max_amount _ c.requires.1)

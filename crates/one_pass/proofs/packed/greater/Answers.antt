@@ -1,0 +1,8 @@
+use Rattle.one_pass.proofs.Packs.{both_as}
+use mathlib.Core.Path.{◌∙◌, ap₂}
+use Prim.Native.Nat.{max}
+use borrow.Author.Rules.{rules}
+use Rattle.one_pass.proofs.packed.greater.Goals as goal
+
+pub returns : goal.returns
+returns c = λ k. both_as (c.joined.ensures k) c.later_of.ensures (c.later_of-2.ensures ∙ ap₂ max c.months.ensures c.months-2.ensures)

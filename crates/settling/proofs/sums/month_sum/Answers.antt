@@ -1,0 +1,43 @@
+use Prim.Native.Nat.{◌%◌, ◌-◌}
+use borrow.Author.Rules.{rules}
+use native.Mathlib.Omega.{arith}
+use lib.ListN.{replicate}
+use mathlib.Core.Path.{subst}
+use Rattle.settling.specs.Sums.{SumIs}
+use Rattle.settling.proofs.SettingSums as sums
+use Rattle.settling.proofs.sums.month_sum.Goals as goal
+
+pub loop-k-init : goal.loop-k-init
+loop-k-init c = sums.summing_start c.args.days.now c.args.digits _ _ c.after_zeros-start.ensures.0 c.after_zeros-start.ensures.1
+
+pub returns-then-rest-eq0 : goal.returns-then-rest-eq0
+returns-then-rest-eq0 c = sums.summing_rest c.args.days.now c.loop-k.invariant c.if-rest-eq0.true
+
+pub term-requires : goal.term-requires
+term-requires c = (omega arith, c.requires)
+
+pub overflow_add-sum : goal.overflow_add-sum
+overflow_add-sum c =
+    let i = c.loop-k.invariant in
+    let h = subst (SumIs c.args.days.now (replicate (c.loop-k.rest % 32) c.loop-k.k)) c.in-Months.is c.term.ensures in
+    record { fits = omega (arith, i.small, sums.next_small c.args.days.now i (omega arith) c.requires _ h) }
+
+pub overflow_add-k : goal.overflow_add-k
+overflow_add-k c = omega arith
+
+pub loop-k-smaller : goal.loop-k-smaller
+loop-k-smaller c = omega arith
+
+pub loop-k-preserved : goal.loop-k-preserved
+loop-k-preserved c =
+    let i = c.loop-k.invariant in
+    let h = subst (SumIs c.args.days.now (replicate (c.loop-k.rest % 32) c.loop-k.k)) c.in-Months.is c.term.ensures in
+    sums.summing_next c.args.days.now i (omega arith) c.requires _ h
+
+pub returns-in-Unset : goal.returns-in-Unset
+returns-in-Unset c =
+    let h = subst (SumIs c.args.days.now (replicate (c.loop-k.rest % 32) c.loop-k.k)) c.in-Unset.is c.term.ensures in
+    sums.summing_stop c.args.days.now c.loop-k.invariant (omega arith) h
+
+pub returns : goal.returns
+returns c = sums.summing_end c.args.days.now c.loop-k.invariant (omega arith)

@@ -1,0 +1,27 @@
+use borrow.Author.Rules.{rules}
+use mathlib.Core.Path.{ap}
+use mir.Facts.{to_z-of_z}
+use mir.Syntax.{w32, w64}
+use mir.Val.{SFits}
+use Rattle.payments.specs.Answers.{paying_answer}
+use Rattle.text.specs.Refusals.{number_of}
+use Rattle.unit.proofs.Puts.{told, untold}
+use Rattle.unit.specs.Returned.{money}
+use Rattle.unit.proofs.tell_payment.Goals as goal
+
+pub returns-in-Pays : goal.returns-in-Pays
+unfolding paying_answer
+returns-in-Pays c =
+    let k = c.put_one in
+    let x = c.paying-1.given.0 in
+    let f : SFits w32 k.result = search rules in
+    let v : SFits w64 x.0.0 = search rules in
+    told money c.args.answer.now x.0.0 (ap paying_answer c.in-Pays.is) k.result k.new.answer f (rw (to_z-of_z v) at k.ensures)
+
+pub returns-in-Refused : goal.returns-in-Refused
+unfolding paying_answer
+returns-in-Refused c =
+    let k = c.refused in
+    let g = c.paying-in-Refused-1.given in
+    let f : SFits w32 k.result = search rules in
+    untold money c.args.answer.now (number_of g.0.0) (ap paying_answer g.1) k.result f k.ensures

@@ -1,0 +1,12 @@
+use Prim.Native.Nat.{◌-◌}
+use Rattle.nodes.specs.Found.{offset_of, test_at}
+use Rattle.nodes.specs.Table.{nat_of}
+use Rattle.worths.proofs.WaitLoop as waiting
+use Rattle.checked.specs.Checked.{test_in}
+use Rattle.worths.proofs.wait.wait_for.Given as goal
+
+abbrev pub invariant-loop-next : goal.invariant-loop-next
+invariant-loop-next l = waiting.Waiting (test_in l.h.0 l.f.0 l.bounds.now l.values.now (test_at offset_of l.left l.nodes.now l.at)) l.initial.month.0 l.last.0 l.month.0
+
+abbrev pub decreases-loop-next : goal.decreases-loop-next
+decreases-loop-next l = nat_of l.last.0 - nat_of l.month.0

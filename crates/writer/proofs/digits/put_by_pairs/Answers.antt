@@ -1,0 +1,15 @@
+use borrow.Author.Rules.{rules}
+use native.Mathlib.Omega.{arith}
+use Rattle.writer.proofs.Splits.{at_eight, front_room, parted, row_room}
+use Rattle.writer.proofs.digits.put_by_pairs.Goals as goal
+
+-- `digits::put_by_pairs` meets its contract.
+
+pub put_to_sixteen-next-requires : goal.put_to_sixteen-next-requires
+put_to_sixteen-next-requires c = (omega (arith, c.requires.0), front_room at_eight _ (omega (arith, c.if-n-lt10000000000000000.false)) c.requires.0 _ _ c.requires.1, c.requires.2)
+
+pub put_eight-requires : goal.put_eight-requires
+put_eight-requires c = (omega arith, row_room at_eight _ (omega (arith, c.if-n-lt10000000000000000.false)) c.requires.0 c.requires.1 c.put_to_sixteen-next.ensures, c.requires.2)
+
+pub returns-else-n-lt10000000000000000 : goal.returns-else-n-lt10000000000000000
+returns-else-n-lt10000000000000000 c = parted at_eight _ (omega (arith, c.if-n-lt10000000000000000.false)) c.requires.0 c.put_to_sixteen-next.ensures c.put_eight.ensures
