@@ -14,7 +14,6 @@ module _ (c : Then-span_ok) where
   f_up_to : UpTo 600 c.args.span.f
   f_up_to = up_to_lem 600 _ (both_true (between (pos 0) (pos 60) c.args.span.h) _ (sym c.span_ok.ensures ∙ c.if-span_ok.true)).1
 
-
 pub overflow_cast-months : goal.overflow_cast-months
 overflow_cast-months c =
     let f : SFits w64 c.args.span.f = search rules in

@@ -31,12 +31,11 @@ bounds-out-at c =
     omega (arith, three_digits (100 * c.args.hundreds + c.args.over) (omega (arith, c.if-hundreds-eq0.false)) (omega (arith, c.requires.0, c.requires.1)), c.requires.2)
 
 pub put_pair-requires : goal.put_pair-requires
-put_pair-requires c =
-    (
-      c.requires.1,
-      omega (arith, three_digits (100 * c.args.hundreds + c.args.over) (omega (arith, c.if-hundreds-eq0.false)) (omega (arith, c.requires.0, c.requires.1)), c.requires.2, length-set c.args.out.now c.args.at (48 + c.args.hundreds)),
-      c.requires.3,
-    )
+put_pair-requires c = (
+  c.requires.1,
+  omega (arith, three_digits (100 * c.args.hundreds + c.args.over) (omega (arith, c.if-hundreds-eq0.false)) (omega (arith, c.requires.0, c.requires.1)), c.requires.2, length-set c.args.out.now c.args.at (48 + c.args.hundreds)),
+  c.requires.3,
+)
 
 pub returns-then-hundreds-eq0 : goal.returns-then-hundreds-eq0
 returns-then-hundreds-eq0 c n e =

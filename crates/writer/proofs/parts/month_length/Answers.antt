@@ -16,7 +16,6 @@ module _ (c : Start) where
   abbrev second : ℤ
   second = slot c.args.nodes.now (c.args.k + 1)
 
-
 pub overflow_add-result : goal.overflow_add-result
 overflow_add-result c = record {
   fits = omega (arith, number_small (first (goal.at.overflow_add-result c).Start) _ c.number_length.ensures, c.settings_length.ensures, settings_most c.magnitude.result);

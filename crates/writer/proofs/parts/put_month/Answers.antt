@@ -21,19 +21,15 @@ module _ (c : Start) where
   abbrev second : ℤ
   second = slot c.args.nodes.now (c.args.k + 1)
 
-
   text : (m : ℕ) → m ≡ nat_abs second → month_field first second ≡ number_field first ++ settings_text m
   text m e = ap (λ t. 44 ∷ t) (month_is first second m e)
-
 
   room : (m : ℕ) → m ≡ nat_abs second → c.args.at + length (number_field first ++ settings_text m) ≤ length c.args.out.now
   room m e = room_as _ _ _ _ (text m e) c.requires.1
 
-
   -- behind the comma
   room_behind : (m : ℕ) → m ≡ nat_abs second → c.args.at + 1 + length (print_number first ++ settings_text m) ≤ length (set c.args.out.now c.args.at 44)
   room_behind m e = (room_front c.args.at 44 (print_number first ++ settings_text m) c.args.out.now (room m e)).1
-
 
 pub bounds-out-at : goal.bounds-out-at
 bounds-out-at c = let s : Start = (goal.at.bounds-out-at c).Start in

@@ -18,10 +18,8 @@ module _ (c : Start) where
   abbrev plain : ℤ
   plain = slot c.args.nodes.now (c.args.j + 2)
 
-
   abbrev settings : ℤ
   settings = slot c.args.nodes.now (c.args.j + 2 + 1)
-
 
 alone : (c : Then-magnitude-eq0)
     → month_field (slot c.args.nodes.now (c.args.j + 2)) (slot c.args.nodes.now (c.args.j + 2 + 1)) ≡ number_field (slot c.args.nodes.now (c.args.j + 2))

@@ -20,24 +20,19 @@ module _ (c : Start) where
   abbrev settings : ℤ
   settings = slot c.args.nodes.now (c.args.j + 1 + 1)
 
-
   abbrev party : ℕ → List ℕ
   party k = number_field (slot c.args.nodes.now (c.args.j + k))
-
 
 -- a month with no settings
 module _ (c : Then-settings-eq0) where
   abbrev parties : List ℕ
   parties = number_field (slot c.args.nodes.now (c.args.j + 3)) ++ number_field (slot c.args.nodes.now (c.args.j + 4))
 
-
   alone : month_field (slot c.args.nodes.now (c.args.j + 1)) (slot c.args.nodes.now (c.args.j + 1 + 1)) ≡ number_field (slot c.args.nodes.now (c.args.j + 1))
   alone = plain_month _ (slot c.args.nodes.now (c.args.j + 1 + 1)) _ c.magnitude-settings.ensures.0 c.if-settings-eq0.true
 
-
   room : c.args.at + length (number_field (slot c.args.nodes.now (c.args.j + 1)) ++ parties) ≤ length c.args.out.now
   room = room_as _ _ _ _ (ap (λ t. t ++ parties) alone) c.requires.1
-
 
 pub put_field-next-requires : goal.put_field-next-requires
 put_field-next-requires c = let s : Start = (goal.at.put_field-next-requires c).Start in

@@ -19,31 +19,24 @@ module _ (c : After-shape_at-shape) where
   abbrev nodes : List ℤ
   nodes = c.args.nodes.now
 
-
   abbrev j : ℕ
   j = c.args.j
-
 
   abbrev figure : ℕ → ℤ
   figure k = slot nodes (j + k)
 
-
   text : (t : Shape) → c.shape_at-shape.result ≡ t → row_text (drop j nodes) ≡ c.letter_byte-letter.result ∷ parts_at t j nodes
   text t e = row_at nodes j _ c.letter_byte-letter.ensures _ c.shape_at-shape.ensures t e
-
 
   room_text : (t : Shape) → c.shape_at-shape.result ≡ t → c.args.at + length (c.letter_byte-letter.result ∷ parts_at t j nodes) ≤ length c.args.out.now
   room_text t e = room_as _ _ _ _ (text t e) c.requires.1
 
-
   room : (t : Shape) → c.shape_at-shape.result ≡ t → c.args.at + 1 + length (parts_at t j nodes) ≤ length (set c.args.out.now c.args.at c.letter_byte-letter.result)
   room t e = (room_front c.args.at c.letter_byte-letter.result (parts_at t j nodes) c.args.out.now (room_text t e)).1
-
 
   -- fields with their commas
   abbrev number : ℕ → List ℕ
   number k = number_field (figure k)
-
 
 pub bounds-out-at : goal.bounds-out-at
 bounds-out-at c = (room_front _ c.letter_byte-letter.result (parts_at c.shape_at-shape.result (j c) (nodes c)) c.args.out.now (room_text c _ refl)).0

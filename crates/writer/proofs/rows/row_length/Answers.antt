@@ -21,35 +21,27 @@ module _ (c : After-shape_at-shape) where
   abbrev nodes : List ℤ
   nodes = c.args.nodes.now
 
-
   abbrev j : ℕ
   j = c.args.j
 
-
   abbrev figure : ℕ → ℤ
   figure k = slot nodes (j + k)
-
 
   -- of a month's field at k
   abbrev settings : ℕ → ℤ
   settings k = slot nodes (j + k + 1)
 
-
   text : (t : Shape) → c.shape_at-shape.result ≡ t → row_text (drop j nodes) ≡ byte_of_letter (slot nodes j) ∷ parts_at t j nodes
   text t e = row_at nodes j _ refl _ c.shape_at-shape.ensures t e
-
 
   number_few : (k : ℕ) {r : ℕ} → r ≡ length (print_number (figure k)) → r ≤ 21
   number_few k {r} e = number_small (figure k) r e
 
-
   delay_few : (k : ℕ) {r : ℕ} → r ≡ length (field_text delay (figure k) (figure k)) → r ≤ 21
   delay_few k {r} e = delay_small (figure k) r e
 
-
   month_few : (k : ℕ) {r : ℕ} → r ≡ length (field_text month (figure k) (settings k)) → r ≤ 800
   month_few k {r} e = month_small (figure k) (settings k) r e
-
 
 pub overflow_add-result : goal.overflow_add-result
 overflow_add-result c = let s : After-shape_at-shape = (goal.at.overflow_add-result c).After-shape_at-shape in
