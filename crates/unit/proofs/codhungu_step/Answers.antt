@@ -23,7 +23,7 @@ unfolding step_call
 tell_step-requires c =
     let a = c.args in
     let e = rw (to_z-of_z c.ranges.h, to_z-of_z c.ranges.f, to_z-of_z c.ranges.today, to_z-of_z c.ranges.p, to_z-of_z c.ranges.q) at c.step-stepping.ensures in
-    counted (leb 2 (length a.answer.now)) a.out.now c.usable-end.ensures (omega (arith, c.well-formed.1.1.1.1.1.1.1.1.1.1.0.1)) (step_text a.plan.now (given_of a.days.now a.h a.f a.factors.now a.bounds.now a.values.now) a.today a.p a.q) e.1
+    counted (leb 2 (length a.answer.now)) a.out.now c.usable-end.ensures (omega (arith, c.well_formed.1.1.1.1.1.1.1.1.1.1.0.1)) (step_text a.plan.now (given_of a.days.now a.h a.f a.factors.now a.bounds.now a.values.now) a.today a.p a.q) e.1
 
 pub returns : goal.returns
 unfolding step_call

@@ -12,22 +12,19 @@ use Rattle.unit.proofs.tell_bytes.Goals as goal
 pub overflow_cast-bytes : goal.overflow_cast-bytes
 unfolding writing_answer
 overflow_cast-bytes c =
-    let g = c.writing-1.given in
-    count_fits g.0.0 (c.requires.within _ (ap writing_answer g.1))
+    count_fits c.in-Bytes.bytes (c.requires.within _ (ap writing_answer c.in-Bytes.is))
 
 pub returns-in-Bytes : goal.returns-in-Bytes
 unfolding writing_answer
 returns-in-Bytes c =
     let k = c.put_one in
-    let x = c.writing-1.given.0 in
     let f : SFits w32 k.result = search rules in
     let n = c.requires.within _ (ap writing_answer c.in-Bytes.is) in
-    told bytes_only c.args.answer.now (record { value = tt; count = x.0 }) (ap writing_answer c.in-Bytes.is) k.result k.new.answer f (rw (to_z_pos w64 x.0 n) at k.ensures)
+    told bytes_only c.args.answer.now (record { value = tt; count = c.in-Bytes.bytes }) (ap writing_answer c.in-Bytes.is) k.result k.new.answer f (rw (to_z_pos w64 c.in-Bytes.bytes n) at k.ensures)
 
 pub returns-in-Refused : goal.returns-in-Refused
 unfolding writing_answer
 returns-in-Refused c =
     let k = c.refused in
-    let g = c.writing-in-Refused-1.given in
     let f : SFits w32 k.result = search rules in
-    untold bytes_only c.args.answer.now (number_of g.0.0) (ap writing_answer g.1) k.result f k.ensures
+    untold bytes_only c.args.answer.now (number_of c.in-Refused.refusal) (ap writing_answer c.in-Refused.is) k.result f k.ensures

@@ -13,15 +13,13 @@ pub returns-in-Pays : goal.returns-in-Pays
 unfolding paying_answer
 returns-in-Pays c =
     let k = c.put_one in
-    let x = c.paying-1.given.0 in
     let f : SFits w32 k.result = search rules in
-    let v : SFits w64 x.0.0 = search rules in
-    told money c.args.answer.now x.0.0 (ap paying_answer c.in-Pays.is) k.result k.new.answer f (rw (to_z-of_z v) at k.ensures)
+    let v : SFits w64 c.in-Pays.pence.0 = search rules in
+    told money c.args.answer.now c.in-Pays.pence.0 (ap paying_answer c.in-Pays.is) k.result k.new.answer f (rw (to_z-of_z v) at k.ensures)
 
 pub returns-in-Refused : goal.returns-in-Refused
 unfolding paying_answer
 returns-in-Refused c =
     let k = c.refused in
-    let g = c.paying-in-Refused-1.given in
     let f : SFits w32 k.result = search rules in
-    untold money c.args.answer.now (number_of g.0.0) (ap paying_answer g.1) k.result f k.ensures
+    untold money c.args.answer.now (number_of c.in-Refused.refusal) (ap paying_answer c.in-Refused.is) k.result f k.ensures

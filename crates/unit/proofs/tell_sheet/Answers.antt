@@ -11,17 +11,15 @@ use Rattle.unit.proofs.tell_sheet.Goals as goal
 pub overflow_cast-bytes : goal.overflow_cast-bytes
 unfolding written_answer
 overflow_cast-bytes c =
-    let g = c.written-1.given in
-    count_fits g.0.0 (c.requires.within _ (ap written_answer g.1))
+    count_fits c.in-Bytes.bytes (c.requires.within _ (ap written_answer c.in-Bytes.is))
 
 pub returns-in-Bytes : goal.returns-in-Bytes
 unfolding written_answer
 returns-in-Bytes c =
     let k = c.put_one in
-    let g = c.written-1.given in
     let f : SFits w32 k.result = search rules in
-    let n = c.requires.within _ (ap written_answer g.1) in
-    told bytes_only c.args.answer.now (record { value = tt; count = g.0.0 }) (ap written_answer g.1) k.result k.new.answer f (rw (to_z_pos w64 g.0.0 n) at k.ensures)
+    let n = c.requires.within _ (ap written_answer c.in-Bytes.is) in
+    told bytes_only c.args.answer.now (record { value = tt; count = c.in-Bytes.bytes }) (ap written_answer c.in-Bytes.is) k.result k.new.answer f (rw (to_z_pos w64 c.in-Bytes.bytes n) at k.ensures)
 
 pub returns-in-NoRoom : goal.returns-in-NoRoom
 unfolding into_answer written_answer

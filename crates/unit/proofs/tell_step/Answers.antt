@@ -13,23 +13,20 @@ use Rattle.unit.proofs.tell_step.Goals as goal
 pub overflow_cast-bytes : goal.overflow_cast-bytes
 unfolding stepping_answer
 overflow_cast-bytes c =
-    let g = c.stepping-1.given in
-    count_fits g.0.1.0 (c.requires.within _ (ap stepping_answer g.1))
+    count_fits c.in-Stepped.bytes (c.requires.within _ (ap stepping_answer c.in-Stepped.is))
 
 pub returns-in-Stepped : goal.returns-in-Stepped
 unfolding stepping_answer
 returns-in-Stepped c =
     let k = c.put_two in
-    let x = c.stepping-1.given.0 in
     let f : SFits w32 k.result = search rules in
-    let v : SFits w64 x.0.0 = search rules in
+    let v : SFits w64 c.in-Stepped.pence.0 = search rules in
     let n = c.requires.within _ (ap stepping_answer c.in-Stepped.is) in
-    told money_bytes c.args.answer.now (record { value = x.0.0; count = x.1.0 }) (ap stepping_answer c.in-Stepped.is) k.result k.new.answer f (rw (to_z-of_z v, to_z_pos w64 x.1.0 n) at k.ensures)
+    told money_bytes c.args.answer.now (record { value = c.in-Stepped.pence.0; count = c.in-Stepped.bytes }) (ap stepping_answer c.in-Stepped.is) k.result k.new.answer f (rw (to_z-of_z v, to_z_pos w64 c.in-Stepped.bytes n) at k.ensures)
 
 pub returns-in-Refused : goal.returns-in-Refused
 unfolding stepping_answer
 returns-in-Refused c =
     let k = c.refused in
-    let g = c.stepping-in-Refused-1.given in
     let f : SFits w32 k.result = search rules in
-    untold money_bytes c.args.answer.now (number_of g.0.0) (ap stepping_answer g.1) k.result f k.ensures
+    untold money_bytes c.args.answer.now (number_of c.in-Refused.refusal) (ap stepping_answer c.in-Refused.is) k.result f k.ensures

@@ -12,14 +12,12 @@ use Rattle.unit.proofs.tell_value.Goals as goal
 pub returns-in-Value : goal.returns-in-Value
 returns-in-Value c =
     let k = c.put_one in
-    let x = c.evaluating-1.given.0 in
     let f : SFits w32 k.result = search rules in
-    let v : SFits w64 x.0.0 = search rules in
-    told money c.args.answer.now x.0.0 (ap evaluating_answer c.in-Value.is) k.result k.new.answer f (rw (to_z-of_z v) at k.ensures)
+    let v : SFits w64 c.in-Value.value.0 = search rules in
+    told money c.args.answer.now c.in-Value.value.0 (ap evaluating_answer c.in-Value.is) k.result k.new.answer f (rw (to_z-of_z v) at k.ensures)
 
 pub returns-in-Refused : goal.returns-in-Refused
 returns-in-Refused c =
     let k = c.refused in
-    let g = c.evaluating-in-Refused-1.given in
     let f : SFits w32 k.result = search rules in
-    untold money c.args.answer.now (number_of g.0.0) (ap evaluating_answer g.1) k.result f k.ensures
+    untold money c.args.answer.now (number_of c.in-Refused.refusal) (ap evaluating_answer c.in-Refused.is) k.result f k.ensures
