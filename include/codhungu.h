@@ -44,10 +44,10 @@
  * The most that was measured, in bytes (x86-64), for a plan nested 32 deep:
  *
  *     cut                                22,000
- *     compile                            27,000
+ *     compile                            24,000
  *     check, payment                     33,000
  *     evaluate                           36,000
- *     step                               43,000
+ *     step                               37,000
  *     sheet                             106,000
  *
  * The library refers to one function outside it, memset.
