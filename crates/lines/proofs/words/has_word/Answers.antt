@@ -1,4 +1,4 @@
-use Prim.Native.Nat.{◌-◌, ◌≤◌}
+use Prim.Native.Nat.{◌+◌}
 use lib.ListN.{length}
 use mathlib.Core.Path.{◌∙◌, ◌≡◌, refl, sym}
 use native.Mathlib.Omega.{arith}
@@ -7,7 +7,9 @@ use Rattle.lines.proofs.WordLaws.{comma_next, field_ends, line_over, other_byte,
 use Rattle.lines.proofs.words.has_word.Goals as goal
 
 pub loop-i-init : goal.loop-i-init
-loop-i-init c = (omega arith, omega arith, refl)
+loop-i-init c =
+    let a = c.args in
+    (omega arith, omega arith, refl, λ h k d e. other_byte a.line.now a.word.now 0 h k d e)
 
 pub bounds-line-i : goal.bounds-line-i
 bounds-line-i c = omega (arith, c.if-i-line.true)
@@ -16,14 +18,6 @@ pub returns-then-b-eq44 : goal.returns-then-b-eq44
 returns-then-b-eq44 c =
     let a = c.args in
     field_ends a.line.now a.word.now c.loop-i.i c.loop-i-test.true (up_comma 44 a.line.now c.loop-i.i c.if-i-line.true c.if-b-eq44.true) ∙ c.loop-i.invariant.2
-
-pub bounds-word-i : goal.bounds-word-i
-bounds-word-i c = omega (arith, c.loop-i-test.true)
-
-pub returns-then-b-word : goal.returns-then-b-word
-returns-then-b-word c =
-    let a = c.args in
-    other_byte a.line.now a.word.now c.loop-i.i c.loop-i-test.true c.if-i-line.true c.if-b-eq44.false c.if-b-word.true ∙ c.loop-i.invariant.2
 
 pub returns-else-i-line : goal.returns-else-i-line
 returns-else-i-line c =
@@ -38,11 +32,9 @@ loop-i-smaller c = omega (arith, c.loop-i-test.true)
 
 pub loop-i-preserved : goal.loop-i-preserved
 loop-i-preserved c =
-    let a = c.args in (
-      omega (arith, c.loop-i-test.true),
-      omega (arith, c.if-i-line.true),
-      same_byte a.line.now a.word.now c.loop-i.i c.loop-i-test.true c.if-i-line.true c.if-b-eq44.false c.if-b-word.false ∙ c.loop-i.invariant.2,
-    )
+    let a = c.args in
+    let s = same_byte a.line.now a.word.now c.loop-i.i c.loop-i-test.true c.if-i-line.true c.if-b-eq44.false (omega arith) ∙ c.loop-i.invariant.2 in
+    (omega (arith, c.loop-i-test.true), omega (arith, c.if-i-line.true), s, λ h k d e. other_byte a.line.now a.word.now (c.loop-i.i + 1) h k d e ∙ s)
 
 pub bounds-line-i-then-i-line-2 : goal.bounds-line-i-then-i-line-2
 bounds-line-i-then-i-line-2 c = omega (arith, c.if-i-line-2.true)

@@ -7,12 +7,6 @@ use mir.Val.{SFits}
 use native.Mathlib.Omega.{arith}
 use Rattle.measures.proofs.quick.quick_transfer.Goals as goal
 
-pub returns-then-high-lt0 : goal.returns-then-high-lt0
-returns-then-high-lt0 c = (omega arith, λ t a z bound p q. unsure t a z bound _ _ _ (omega arith))
-
-pub returns-then-need-gt0 : goal.returns-then-need-gt0
-returns-then-need-gt0 c = (omega arith, λ t a z bound p q. unsure t a z bound _ _ _ (omega arith))
-
 pub overflow_cast-result : goal.overflow_cast-result
 overflow_cast-result c =
     let f : SFits w64 c.args.high.0 = search rules in
@@ -27,4 +21,4 @@ pub returns : goal.returns
 returns c =
     let f : SFits w64 c.args.high.0 = search rules in
     let b = left_few f c.if-high-lt0.false c.requires in
-    (omega (arith, b), λ t a z bound p q. transfer_sure t a z bound p q b (left_is f c.if-high-lt0.false) (omega (arith, c.if-need-gt0.false)) refl)
+    (omega (arith, b), λ t a z bound p q. transfer_sure t a z bound p q b (left_is f c.if-high-lt0.false) (omega arith) refl)
