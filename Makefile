@@ -8,14 +8,14 @@
 #   make uninstall PREFIX= DESTDIR=
 #   make clean
 #
-# LIB=FILE takes a library that is built already, in place of crates/unit/out/libunit.a.
+# LIB=FILE takes a library that is built already, in place of crates/unit_c/out/libunit_c.a.
 # OBJCOPY= names another objcopy; it has to know --set-section-alignment, as GNU's does since 2.33.
 .POSIX:
 
 VERSION = 0.1.0
 PREFIX = /usr/local
 DESTDIR =
-LIB = crates/unit/out/libunit.a
+LIB = crates/unit_c/out/libunit_c.a
 CC = cc
 CXX = c++
 OBJCOPY = objcopy
@@ -27,8 +27,8 @@ SOURCES != find crates crates.txt -name out -prune -o -type f -print
 
 all: build/libcodhungu.a build/codhungu.pc
 
-crates/unit/out/libunit.a: $(SOURCES)
-	cd crates/unit && rt lib
+crates/unit_c/out/libunit_c.a: $(SOURCES)
+	cd crates/unit_c && rt lib
 	touch $@
 
 # The same code, each function at the start of a cache line: where the compiler puts it moves a loop's time by up to 7 %.
