@@ -45,10 +45,10 @@
  *
  *     cut                                22,000
  *     compile                            24,000
- *     check, payment                     33,000
- *     evaluate                           36,000
- *     step                               37,000
- *     sheet                             106,000
+ *     check, payment                     32,000
+ *     evaluate                           34,000
+ *     step                               35,000
+ *     sheet                             105,000
  *
  * The library refers to one function outside it, memset.
  *

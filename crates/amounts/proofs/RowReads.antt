@@ -18,10 +18,8 @@ use Rattle.language.proofs.Acceptance.{no_answer}
 use Rattle.nodes.proofs.Signed.{nat_of_known}
 use Rattle.nodes.specs.Table.{nat_of}
 use Rattle.tables.specs.Lookup.{found_answer, standing}
-use Rattle.tables.specs.declared.lookup.Found.{Found}
-use Rattle.tables.specs.declared.lookup.Found.TheVariants.{Outside, Value}
-use Rattle.tables.specs.declared.lookup.Place.TheVariants.{At}
 use Rattle.amounts.specs.Fine.{Divides, MonthIn, Reading}
+use Rattle.std.specs.Prelude.{None, Option, Some}
 
 pub month_is : (m : ℤ) → T (non_neg m) → m ≡ pos (nat_of m)
 month_is (pos n) h = refl
@@ -62,11 +60,11 @@ divisor_is (pos n) h = refl
 divisor_is (negsuc n) h = absurd (omega (arith, h.some))
 
 -- what a lookup finds at a place
-module _ (values : List ℤ) (i : ℕ) (r : Found) (e : found_answer r ≡ standing values (At i)) where
-  pub found_is : (p : Pence) → r ≡ Value p → p.0 ≡ get_or values i (pos 0)
+module _ (values : List ℤ) (i : ℕ) (r : Option Pence) (e : found_answer r ≡ standing values (Some i)) where
+  pub found_is : (p : Pence) → r ≡ Some p → p.0 ≡ get_or values i (pos 0)
   unfolding found_answer standing
   found_is p q = let z = ap found_answer (sym q) ∙ e in cc
 
-  pub never_outside : r ≡ Outside → ⊥
+  pub never_outside : r ≡ None → ⊥
   unfolding found_answer standing
   never_outside q = no_answer (ap found_answer (sym q) ∙ e)

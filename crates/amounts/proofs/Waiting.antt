@@ -5,12 +5,8 @@ use lib.IntN.{◌+ℤ◌, negsuc, pos, ℤ}
 use lib.Signed.{lt_z, non_neg}
 use mathlib.Core.Bool.{Bool, false, true}
 use mathlib.Core.Path.{◌∙◌, ◌≡◌, ap, refl, sym}
-use mir.Facts.{to_z-of_z}
-use mir.Syntax.{w64}
-use mir.Val.{SFits}
 use native.Mathlib.Numerals.{add-one}
 use native.Mathlib.Omega.{arith}
-use Rattle.integers.proofs.Locals.{rd}
 use Rattle.integers.proofs.Tests.{lt_false, lt_true}
 use Rattle.integers.specs.Bounded.{Small}
 use Rattle.language.specs.Payments.Pays.{hit, miss, tried}
@@ -100,32 +96,32 @@ module _ (t : ℕ → Bool) (first d last : ℤ) (h : MonthsIn first d) (e : las
         let m = month_is month w.known in
         sym (ap wait_of (all ∙ tried_now t (nat_of month) (nat_of last - nat_of month) eh) ∙ ap (λ z. Held (record { 0 = z })) (sym m))
 
-    -- the test fails, and `next` is the month to try after it
-    module _ (em : t (nat_of month) ≡ false) (next : ℤ) (en : next ≡ month +ℤ pos 1) (fl : SFits w64 last) (fn : SFits w64 next) where
-      after : Later month (pos 1) next
-      after = later_is month (pos 1) next w.known tt en
-
-      pub missed : lt_z (rd last) (rd next) ≡ true → Missed (record { 0 = last }) ≡ wait_of (tried t (nat_of d) (nat_of first))
+    -- the test fails
+    module _ (em : t (nat_of month) ≡ false) where
+      pub missed : lt_z month last ≡ false → Missed (record { 0 = last }) ≡ wait_of (tried t (nat_of d) (nat_of first))
       missed el =
-          let o = order last next until.known after.known (rw (to_z-of_z fl, to_z-of_z fn) at el) in
-          let z : nat_of last - nat_of month ≡ 0 = omega (arith, o, after.is) in
-          let m : nat_of month ≡ nat_of last = omega (arith, o, after.is, w.within) in
+          let o = not_order month last w.known until.known el in
+          let z : nat_of last - nat_of month ≡ 0 = omega (arith, o) in
+          let m : nat_of month ≡ nat_of last = omega (arith, o, w.within) in
           let l : pos (nat_of month) ≡ last = ap pos m ∙ sym (month_is last until.known) in
           sym (ap wait_of (all ∙ tried_last t (nat_of month) (nat_of last - nat_of month) z em) ∙ ap (λ x. Missed (record { 0 = x })) l)
 
-      module _ (el : lt_z (rd last) (rd next) ≡ false) where
-        before : nat_of next ≤ nat_of last
-        before = not_order last next until.known after.known (rw (to_z-of_z fl, to_z-of_z fn) at el)
+      module _ (el : lt_z month last ≡ true) where
+        before : nat_of month < nat_of last
+        before = order month last w.known until.known el
 
-        pub falls : nat_of last - nat_of next < nat_of last - nat_of month
-        falls = omega (arith, before, after.is)
+        after : Later month (pos 1) (month +ℤ pos 1)
+        after = later_is month (pos 1) (month +ℤ pos 1) w.known tt refl
 
-        pub again : Waiting t first last next
+        pub next_small : Small (month +ℤ pos 1)
+        next_small = small_month (month +ℤ pos 1) after.known (omega (arith, after.is, before, until.is, h.within))
+
+        pub again : Waiting t first last (month +ℤ pos 1)
         again =
-            let z : nat_of last - nat_of next ≡ nat_of last - nat_of month - 1 = omega (arith, after.is) in
+            let z : nat_of last - nat_of (month +ℤ pos 1) ≡ nat_of last - nat_of month - 1 = omega (arith, after.is) in
             record {
               known = after.known;
               begun = omega (arith, w.begun, after.is);
-              within = before;
-              same = w.same ∙ tried_next t (nat_of month) (nat_of last - nat_of month) (omega (arith, before, after.is)) em ∙ rw (z, after.is);
+              within = omega (arith, before, after.is);
+              same = w.same ∙ tried_next t (nat_of month) (nat_of last - nat_of month) (omega (arith, before)) em ∙ rw (z, after.is);
             }

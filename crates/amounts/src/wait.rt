@@ -10,40 +10,14 @@ ghost use Rattle.amounts.specs.Flat.{flat};
 ghost use Rattle.amounts.specs.FourMonths.{first_that_holds};
 ghost use Rattle.amounts.specs.Waits.{FineMonths, MonthsIn, wait_of};
 
+use crate::Tables;
 use crate::four::Held;
-use crate::fours;
 use integers::Month;
 
 #[derive(Clone, Copy)]
 pub enum Wait {
     Held(Month),
     Missed(Month),
-}
-
-// The test at a node, tried in month `first` and each of the next d, one by one.
-fn wait_singly(
-    nodes: &&[i64],
-    values: &&[i64],
-    first: Month,
-    d: Month,
-    at: usize,
-    left: usize,
-) -> Wait
-    requires { MonthsIn first.0 d.0 × TestStands left nodes.now.now at × FineMonths values.now.now (nat_of first.0) (nat_of d.0) (test_at offset_of left nodes.now.now at) }
-    ensures { result ≡ wait_of (tried (holds (flat values.now.now) (test_at offset_of left nodes.now.now at)) (nat_of d.0) (nat_of first.0)) }
-{
-    let last = integers::later(first, d);
-    let mut month = first;
-    loop {
-        if crate::test_holds(nodes, values, month, at, left) {
-            break Wait::Held(month);
-        }
-        let following = integers::later(month, Month(1));
-        if last.0 < following.0 {
-            break Wait::Missed(last);
-        }
-        month = following;
-    }
 }
 
 // How many months after the first of four a test first held, or 4.
@@ -73,29 +47,39 @@ pub fn between(month: Month, last: Month) -> Month
     Month(last.0 - month.0)
 }
 
-// The test at a node, tried in month `first` and each of the next d: four at a time, the last ones one by one.
-pub fn wait_for(
-    nodes: &&[i64],
-    values: &&[i64],
-    first: Month,
-    d: Month,
-    at: usize,
-    left: usize,
-) -> Wait
-    requires { MonthsIn first.0 d.0 × TestStands left nodes.now.now at × FineMonths values.now.now (nat_of first.0) (nat_of d.0) (test_at offset_of left nodes.now.now at) }
-    ensures { result ≡ wait_of (tried (holds (flat values.now.now) (test_at offset_of left nodes.now.now at)) (nat_of d.0) (nat_of first.0)) }
-{
-    let last = integers::later(first, d);
-    let mut month = first;
-    loop {
-        let next = integers::later(month, Month(4));
-        if last.0 < next.0 {
-            break wait_singly(nodes, values, month, between(month, last), at, left);
+impl Tables<'_> {
+    // The test at a node, tried in month `first` and each of the next d, one by one.
+    fn wait_singly(&self, first: Month, d: Month, at: usize, left: usize) -> Wait
+        requires { MonthsIn first.0 d.0 × TestStands left self.now.nodes.now at × FineMonths self.now.values.now (nat_of first.0) (nat_of d.0) (test_at offset_of left self.now.nodes.now at) }
+        ensures { result ≡ wait_of (tried (holds (flat self.now.values.now) (test_at offset_of left self.now.nodes.now at)) (nat_of d.0) (nat_of first.0)) }
+    {
+        let last = integers::later(first, d);
+        for month in first.0..=last.0 {
+            if self.test_holds(Month(month), at, left) {
+                return Wait::Held(Month(month));
+            }
         }
-        let k = first_held(fours::tests(nodes, values, month, at, left));
-        if k.0 < 4 {
-            break Wait::Held(integers::later(month, k));
+        Wait::Missed(last)
+    }
+
+    // The test at a node, tried in month `first` and each of the next d: four at a time, the last ones one by one.
+    // A `loop`: `step_by` would give the first of each four, and how many are left over would be worked out beside it.
+    pub fn wait_for(&self, first: Month, d: Month, at: usize, left: usize) -> Wait
+        requires { MonthsIn first.0 d.0 × TestStands left self.now.nodes.now at × FineMonths self.now.values.now (nat_of first.0) (nat_of d.0) (test_at offset_of left self.now.nodes.now at) }
+        ensures { result ≡ wait_of (tried (holds (flat self.now.values.now) (test_at offset_of left self.now.nodes.now at)) (nat_of d.0) (nat_of first.0)) }
+    {
+        let last = integers::later(first, d);
+        let mut month = first;
+        loop {
+            let next = integers::later(month, Month(4));
+            if last.0 < next.0 {
+                break self.wait_singly(month, between(month, last), at, left);
+            }
+            let k = first_held(self.tests(month, at, left));
+            if k.0 < 4 {
+                break Wait::Held(integers::later(month, k));
+            }
+            month = next;
         }
-        month = next;
     }
 }

@@ -1,9 +1,8 @@
 -- What the way back answers of an amount.
-use Rattle.std.specs.Prelude.{ℤ, ◌≡◌}
-use Rattle.backwards.specs.declared.Back.{Back}
-use Rattle.backwards.specs.declared.Back.TheVariants.{Other, Value}
+use Rattle.std.specs.Prelude.{ℤ, ◌≡◌, None, Option, Some}
+use Rattle.integers.specs.declared.Pence.{Pence}
 
 -- a value that is answered is v
-abbrev pub BackIs : ℤ → Back → Type 0
-BackIs v (Value p) = p.0 ≡ v
-BackIs v Other = Unit {0}
+abbrev pub BackIs : ℤ → Option Pence → Type 0
+BackIs v (Some p) = p.0 ≡ v
+BackIs v None = Unit {0}

@@ -12,29 +12,21 @@ ghost use Rattle.nodes.specs.Found.{amount_at, offset_of};
 ghost use Rattle.nodes.specs.Stands.{AmountStands};
 ghost use Rattle.nodes.specs.Table.{nat_of};
 
-use amounts::rows;
+use amounts::{Tables, rows};
 use integers::{Month, Pence};
-
-// What the way back answers.
-#[derive(Clone, Copy)]
-pub enum Back {
-    Value(Pence),
-    Other,
-}
 
 // The newest value is in `top`, those beneath it in the stack. An `I`, or more values than the stack holds, gives up. The letters are
 // asked for two at a time: one jump by all of them would be foreseen wrongly too often.
-pub fn worked_back(nodes: &&[i64], values: &&[i64], month: Month, from: usize, to: usize) -> Back
-    requires { MonthIn month.0 × Fine values.now.now (nat_of month.0) (amount_at offset_of 512 nodes.now.now from) × AmountBlock 512 nodes.now.now from to × (to ≤ 512) × (5 * to ≤ length nodes.now.now) }
-    ensures { BackIs (value (flat values.now.now) (amount_at offset_of 512 nodes.now.now from) (nat_of month.0)) result }
+// The stack is an array with its depth beside it: that a value waits is proved, where `pop` of an `ArrayVec` would ask each time.
+pub fn worked_back(tables: &Tables, month: Month, from: usize, to: usize) -> Option<Pence>
+    requires { MonthIn month.0 × Fine tables.now.values.now (nat_of month.0) (amount_at offset_of 512 tables.now.nodes.now from) × AmountBlock 512 tables.now.nodes.now from to × (to ≤ 512) × (5 * to ≤ length tables.now.nodes.now) }
+    ensures { BackIs (value (flat tables.now.values.now) (amount_at offset_of 512 tables.now.nodes.now from) (nat_of month.0)) result }
 {
     let mut stack = [0i64; 32];
     let mut depth: usize = 0;
     let mut top = 0i64;
-    let mut at = to;
-    while from < at {
-        at -= 1;
-        let x = nodes::slot(nodes, at, 0);
+    for at in (from..to).rev() {
+        let x = nodes::slot(tables.nodes, at, 0);
         if x < 78 {
             match x {
                 65 => {
@@ -48,29 +40,29 @@ pub fn worked_back(nodes: &&[i64], values: &&[i64], month: Month, from: usize, t
                     top = integers::times(Pence(top), Pence(y)).0;
                 }
                 _ => {
-                    return Back::Other;
+                    return None;
                 }
             }
         } else if x < 80 {
             match x {
                 78 => {
                     if depth == 32 {
-                        return Back::Other;
+                        return None;
                     }
                     stack[depth] = top;
                     depth += 1;
-                    top = rows::number(nodes, at).0;
+                    top = rows::number(tables.nodes, at).0;
                 }
                 79 => {
                     if depth == 32 {
-                        return Back::Other;
+                        return None;
                     }
                     stack[depth] = top;
                     depth += 1;
-                    top = rows::reading(nodes, values, month, at).0;
+                    top = rows::reading(tables, month, at).0;
                 }
                 _ => {
-                    return Back::Other;
+                    return None;
                 }
             }
         } else {
@@ -81,30 +73,26 @@ pub fn worked_back(nodes: &&[i64], values: &&[i64], month: Month, from: usize, t
                     top = integers::minus(Pence(top), Pence(y)).0;
                 }
                 81 => {
-                    top = rows::over(nodes, at, Pence(top)).0;
+                    top = rows::over(tables.nodes, at, Pence(top)).0;
                 }
                 _ => {
-                    return Back::Other;
+                    return None;
                 }
             }
         }
     }
-    Back::Value(Pence(top))
+    Some(Pence(top))
 }
 
 // By recursion where there are few rows, or where the way back gives up.
-pub fn amount_in(nodes: &&[i64], values: &&[i64], month: Month, from: usize, to: usize) -> Pence
-    requires { MonthIn month.0 × AmountStands 512 nodes.now.now from × Fine values.now.now (nat_of month.0) (amount_at offset_of 512 nodes.now.now from) × AmountBlock 512 nodes.now.now from to × (to ≤ 512) × (5 * to ≤ length nodes.now.now) }
-    ensures { result.0 ≡ value (flat values.now.now) (amount_at offset_of 512 nodes.now.now from) (nat_of month.0) }
+pub fn amount_in(tables: &Tables, month: Month, from: usize, to: usize) -> Pence
+    requires { MonthIn month.0 × AmountStands 512 tables.now.nodes.now from × Fine tables.now.values.now (nat_of month.0) (amount_at offset_of 512 tables.now.nodes.now from) × AmountBlock 512 tables.now.nodes.now from to × (to ≤ 512) × (5 * to ≤ length tables.now.nodes.now) }
+    ensures { result.0 ≡ value (flat tables.now.values.now) (amount_at offset_of 512 tables.now.nodes.now from) (nat_of month.0) }
 {
     if from + 24 < to {
-        let back = worked_back(nodes, values, month, from, to);
-        match back {
-            Back::Value(p) => {
-                return p;
-            }
-            Back::Other => {}
+        if let Some(p) = worked_back(tables, month, from, to) {
+            return p;
         }
     }
-    amounts::amount_value(nodes, values, month, from, 512)
+    tables.amount_value(month, from, 512)
 }

@@ -25,12 +25,11 @@ use Rattle.language.specs.Rules.Table.{Table, readable, value_at}
 use Rattle.nodes.proofs.Signed.{nat_of_known}
 use Rattle.nodes.specs.Table.{nat_of}
 use Rattle.tables.specs.Lookup.{found_answer, looked_up, read_table}
-use Rattle.tables.specs.declared.lookup.Found.{Found}
-use Rattle.tables.specs.declared.lookup.Found.TheVariants as found
 use Rattle.checked.specs.Answers.{divided_by, valued_answer}
 use Rattle.checked.specs.Ranges.{Near, Readable, Waited}
 use Rattle.checked.specs.declared.answers.Fault.TheVariants as fault
-use Rattle.checked.specs.declared.answers.Valued.TheVariants as valued
+use Rattle.std.specs.Prelude.{Err, None, Ok, Option, Some}
+use Rattle.integers.specs.declared.Pence.{Pence}
 
 -- ---- a label: x is a local that reads the field y
 none : (y : ℤ) → lt_z y (pos 0) ≡ true → 0 ≡ nat_of y
@@ -74,17 +73,17 @@ module _ (h f : ℤ) (bounds values : List ℤ) (R : Readable h f bounds values)
   read_is l m = ap (λ a. cond (readable t l m) a (refused 11)) (sym (in_range_lem max_amount (value_at t l m) (R.small l m)))
 
   -- the code's label k and month m
-  module _ {k l : ℕ} (ek : k ≡ l) {m x : ℤ} (em : m ≡ w +ℤ x) (ex : x ≡ i) (r : Found) (a : found_answer r ≡ looked_up t k m) where
+  module _ {k l : ℕ} (ek : k ≡ l) {m x : ℤ} (em : m ≡ w +ℤ x) (ex : x ≡ i) (r : Option Pence) (a : found_answer r ≡ looked_up t k m) where
     abbrev month : ℤ
     month = pos (nat_of w) +ℤ i
 
     whole : found_answer r ≡ cond (readable t l month) (in_range max_amount (value_at t l month)) (refused 11)
     whole = a ∙ ap₂ (looked_up t) ek (em ∙ ap₂ ◌+ℤ◌ (month_is w hw.known) ex) ∙ read_is l month
 
-    pub read_found : (p : _) → r ≡ found.Value p → valued_answer (valued.Value p) ≡ cond (readable t l month) (in_range max_amount (value_at t l month)) (refused 11)
+    pub read_found : (p : _) → r ≡ Some p → valued_answer (Ok p) ≡ cond (readable t l month) (in_range max_amount (value_at t l month)) (refused 11)
     unfolding found_answer
     read_found p e = sym (ap found_answer e) ∙ whole
 
-    pub read_outside : r ≡ found.Outside → valued_answer (valued.Refused fault.Unread) ≡ cond (readable t l month) (in_range max_amount (value_at t l month)) (refused 11)
+    pub read_outside : r ≡ None → valued_answer (Err fault.Unread) ≡ cond (readable t l month) (in_range max_amount (value_at t l month)) (refused 11)
     unfolding found_answer
     read_outside e = sym (ap found_answer e) ∙ whole

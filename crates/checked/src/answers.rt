@@ -5,9 +5,11 @@ ghost use Rattle.integers.specs.Equal.{eq_z};
 ghost use Rattle.language.specs.Answer.{got, on_both};
 ghost use Rattle.language.specs.Limits.{max_amount};
 ghost use Rattle.language.specs.Payoff.Evaluate.{in_range};
-ghost use Rattle.checked.specs.Answers.{SmallValued, amount_answer, not_answer, tested_answer, valued_answer};
+ghost use Rattle.text.specs.Refusals.{number_of};
+ghost use Rattle.checked.specs.Answers.{SmallValued, amount_answer, fault_number, not_answer, tested_answer, valued_answer};
 
-use integers::{Bounded, Pence};
+use integers::Pence;
+use text::Refusal;
 
 // What an amount or a test can be refused for: 11 or 14.
 #[derive(Clone, Copy)]
@@ -16,139 +18,90 @@ pub enum Fault {
     Beyond,
 }
 
-#[derive(Clone, Copy)]
-pub enum Valued {
-    Value(Pence),
-    Refused(Fault),
-}
+impl From<Fault> for Refusal {
+    ghost from_gives = { λ k r. number_of r ≡ fault_number k };
 
-#[derive(Clone, Copy)]
-pub enum Tested {
-    Holds,
-    Fails,
-    Refused(Fault),
+    fn from(k: Fault) -> Refusal {
+        match k {
+            Fault::Unread => Refusal::Reads,
+            Fault::Beyond => Refusal::OutOfRange,
+        }
+    }
 }
 
 // An amount beyond the limit is 14.
-pub fn amount_of(b: Bounded) -> Valued
+pub fn amount_of(b: Option<Pence>) -> Result<Pence, Fault>
     ensures { valued_answer result ≡ amount_answer b }
 {
-    match b {
-        Bounded::Within(p) => Valued::Value(p),
-        Bounded::OutOfRange => Valued::Refused(Fault::Beyond),
-    }
-}
-
-pub fn truth(b: bool) -> Tested
-    ensures { tested_answer result ≡ got b }
-{
-    if b {
-        return Tested::Holds;
-    }
-    Tested::Fails
+    b.ok_or(Fault::Beyond)
 }
 
 // ---- amounts
 
-pub fn sum_of(x: Valued, y: Valued) -> Valued
+pub fn sum_of(x: Result<Pence, Fault>, y: Result<Pence, Fault>) -> Result<Pence, Fault>
     requires { SmallValued x × SmallValued y }
     ensures { valued_answer result ≡ on_both (λ a b. in_range max_amount (a +ℤ b)) (valued_answer x) (valued_answer y) }
 {
-    match x {
-        Valued::Value(p) => match y {
-            Valued::Value(q) => amount_of(integers::sum(p, q)),
-            Valued::Refused(k) => Valued::Refused(k),
-        },
-        Valued::Refused(k) => Valued::Refused(k),
-    }
+    let p = x?;
+    let q = y?;
+    amount_of(integers::sum(p, q))
 }
 
-pub fn difference_of(x: Valued, y: Valued) -> Valued
+pub fn difference_of(x: Result<Pence, Fault>, y: Result<Pence, Fault>) -> Result<Pence, Fault>
     requires { SmallValued x × SmallValued y }
     ensures { valued_answer result ≡ on_both (λ a b. in_range max_amount (a -ℤ b)) (valued_answer x) (valued_answer y) }
 {
-    match x {
-        Valued::Value(p) => match y {
-            Valued::Value(q) => amount_of(integers::difference(p, q)),
-            Valued::Refused(k) => Valued::Refused(k),
-        },
-        Valued::Refused(k) => Valued::Refused(k),
-    }
+    let p = x?;
+    let q = y?;
+    amount_of(integers::difference(p, q))
 }
 
-pub fn product_of(x: Valued, y: Valued) -> Valued
+pub fn product_of(x: Result<Pence, Fault>, y: Result<Pence, Fault>) -> Result<Pence, Fault>
     requires { SmallValued x × SmallValued y }
     ensures { valued_answer result ≡ on_both (λ a b. in_range max_amount (a *ℤ b)) (valued_answer x) (valued_answer y) }
 {
-    match x {
-        Valued::Value(p) => match y {
-            Valued::Value(q) => amount_of(integers::product(p, q)),
-            Valued::Refused(k) => Valued::Refused(k),
-        },
-        Valued::Refused(k) => Valued::Refused(k),
-    }
+    let p = x?;
+    let q = y?;
+    amount_of(integers::product(p, q))
 }
 
 // ---- tests
 
-pub fn less_than(x: Valued, y: Valued) -> Tested
+pub fn less_than(x: Result<Pence, Fault>, y: Result<Pence, Fault>) -> Result<bool, Fault>
     ensures { tested_answer result ≡ on_both (λ a b. got (lt_z a b)) (valued_answer x) (valued_answer y) }
 {
-    match x {
-        Valued::Value(p) => match y {
-            Valued::Value(q) => truth(integers::less(p, q)),
-            Valued::Refused(k) => Tested::Refused(k),
-        },
-        Valued::Refused(k) => Tested::Refused(k),
-    }
+    let p = x?;
+    let q = y?;
+    Ok(integers::less(p, q))
 }
 
-pub fn equal_to(x: Valued, y: Valued) -> Tested
+pub fn equal_to(x: Result<Pence, Fault>, y: Result<Pence, Fault>) -> Result<bool, Fault>
     ensures { tested_answer result ≡ on_both (λ a b. got (eq_z a b)) (valued_answer x) (valued_answer y) }
 {
-    match x {
-        Valued::Value(p) => match y {
-            Valued::Value(q) => truth(integers::equal(p, q)),
-            Valued::Refused(k) => Tested::Refused(k),
-        },
-        Valued::Refused(k) => Tested::Refused(k),
-    }
+    let p = x?;
+    let q = y?;
+    Ok(integers::equal(p, q))
 }
 
-pub fn both_hold(x: Tested, y: Tested) -> Tested
+pub fn both_hold(x: Result<bool, Fault>, y: Result<bool, Fault>) -> Result<bool, Fault>
     ensures { tested_answer result ≡ on_both (λ a b. got (a && b)) (tested_answer x) (tested_answer y) }
 {
-    match x {
-        Tested::Holds => y,
-        Tested::Fails => match y {
-            Tested::Holds => Tested::Fails,
-            Tested::Fails => Tested::Fails,
-            Tested::Refused(k) => Tested::Refused(k),
-        },
-        Tested::Refused(k) => Tested::Refused(k),
-    }
+    let s = x?;
+    let t = y?;
+    Ok(s & t)
 }
 
-pub fn one_holds(x: Tested, y: Tested) -> Tested
+pub fn one_holds(x: Result<bool, Fault>, y: Result<bool, Fault>) -> Result<bool, Fault>
     ensures { tested_answer result ≡ on_both (λ a b. got (a || b)) (tested_answer x) (tested_answer y) }
 {
-    match x {
-        Tested::Holds => match y {
-            Tested::Holds => Tested::Holds,
-            Tested::Fails => Tested::Holds,
-            Tested::Refused(k) => Tested::Refused(k),
-        },
-        Tested::Fails => y,
-        Tested::Refused(k) => Tested::Refused(k),
-    }
+    let s = x?;
+    let t = y?;
+    Ok(s | t)
 }
 
-pub fn opposite(x: Tested) -> Tested
+pub fn opposite(x: Result<bool, Fault>) -> Result<bool, Fault>
     ensures { tested_answer result ≡ not_answer (tested_answer x) }
 {
-    match x {
-        Tested::Holds => Tested::Fails,
-        Tested::Fails => Tested::Holds,
-        Tested::Refused(k) => Tested::Refused(k),
-    }
+    let s = x?;
+    Ok(!s)
 }

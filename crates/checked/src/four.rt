@@ -1,5 +1,5 @@
 // Amounts and tests in four months in a row, all four of them without a refusal, or not sure.
-ghost use Rattle.std.specs.Prelude.{◌≡◌, ◌&&◌, ◌||◌, true, ℕ, ◌+◌, ◌<◌, ◌≤◌, ◌*ℤ◌, ◌+ℤ◌, ◌-ℤ◌, nat_abs, pos, length};
+ghost use Rattle.std.specs.Prelude.{◌≡◌, ◌&&◌, ◌||◌, true, ℕ, ◌+◌, ◌<◌, ◌≤◌, ◌*ℤ◌, ◌+ℤ◌, ◌-ℤ◌, nat_abs, pos, length, Some};
 ghost use Rattle.std.specs.Int.Signed.{lt_z};
 ghost use Rattle.amounts.specs.Fine.{Divides};
 ghost use Rattle.amounts.specs.FourMonths.{held_in, pence_in};
@@ -10,18 +10,17 @@ ghost use Rattle.language.specs.Limits.{max_amount};
 ghost use Rattle.language.specs.Payoff.Evaluate.{in_range};
 ghost use Rattle.nodes.specs.Table.{RowIn, nat_of, slot_at};
 ghost use Rattle.tables.specs.Lookup.{standing};
-ghost use Rattle.tables.specs.declared.lookup.Place.TheVariants.{At};
 ghost use Rattle.checked.specs.Answers.{divided_by, not_answer, valued_answer};
 ghost use Rattle.checked.specs.FourMonths.{Chosen, From, FromTest, FromTests, FromTwo, SmallFour, SureFour, one_of, reading_in};
-ghost use Rattle.checked.specs.Ranges.{FourWaited, Near, Readable};
+ghost use Rattle.checked.specs.Ranges.{FourWaited, Near};
 
-use crate::answers::Valued;
+use crate::answers::Fault;
+use crate::lent::Lent;
 use crate::{answers, rows};
 use amounts::four::{Four, Held};
 use amounts::{four, four_rows};
 use integers::{Month, Pence};
 use tables::lookup;
-use tables::lookup::Place;
 
 const LEAST: i64 = -9_000_000_000_000;
 
@@ -56,19 +55,24 @@ pub fn unsure() -> FourValues
     }
 }
 
-fn gathered(x: Valued, y: Valued, z: Valued, u: Valued) -> FourValues
+fn gathered(
+    x: Result<Pence, Fault>,
+    y: Result<Pence, Fault>,
+    z: Result<Pence, Fault>,
+    u: Result<Pence, Fault>,
+) -> FourValues
     ensures { SureFour result (one_of (valued_answer x) (valued_answer y) (valued_answer z) (valued_answer u)) }
 {
-    let Valued::Value(a) = x else {
+    let Ok(a) = x else {
         return unsure();
     };
-    let Valued::Value(b) = y else {
+    let Ok(b) = y else {
         return unsure();
     };
-    let Valued::Value(c) = z else {
+    let Ok(c) = z else {
         return unsure();
     };
-    let Valued::Value(d) = u else {
+    let Ok(d) = u else {
         return unsure();
     };
     FourValues {
@@ -79,9 +83,9 @@ fn gathered(x: Valued, y: Valued, z: Valued, u: Valued) -> FourValues
 
 // ---- rows
 
-pub fn number(nodes: &&[i64], at: usize) -> FourValues
-    requires { RowIn nodes.now.now at × (nat_abs (slot_at nodes.now.now at 1) ≤ max_amount) }
-    ensures { SureFour result (λ k. in_range max_amount (slot_at nodes.now.now at 1)) }
+pub fn number(nodes: &[i64], at: usize) -> FourValues
+    requires { RowIn nodes.now at × (nat_abs (slot_at nodes.now at 1) ≤ max_amount) }
+    ensures { SureFour result (λ k. in_range max_amount (slot_at nodes.now at 1)) }
 {
     FourValues {
         four: four_rows::number(nodes, at),
@@ -92,7 +96,7 @@ pub fn number(nodes: &&[i64], at: usize) -> FourValues
 // The values at a place and the three behind it.
 fn values_at(values: &[i64], i: usize) -> FourValues
     requires { i + 3 < length values.now }
-    ensures { SureFour result (λ k. standing values.now (At (i + k))) }
+    ensures { SureFour result (λ k. standing values.now (Some (i + k))) }
 {
     FourValues {
         four: Four {
@@ -106,30 +110,21 @@ fn values_at(values: &[i64], i: usize) -> FourValues
 }
 
 // The value of an `O`: sure where all four months are in the table.
-pub fn reading(
-    nodes: &&[i64],
-    values: &&[i64],
-    bounds: &&[i64],
-    h: Month,
-    f: Month,
-    waited: Month,
-    at: usize,
-) -> FourValues
-    requires { RowIn nodes.now.now at × Readable h.0 f.0 bounds.now.now values.now.now × FourWaited waited.0 × Near (slot_at nodes.now.now at 2) }
-    ensures { SureFour result (λ k. reading_in h.0 f.0 bounds.now.now values.now.now (nat_of (slot_at nodes.now.now at 1)) (pos (nat_of waited.0 + k) +ℤ slot_at nodes.now.now at 2)) }
+pub fn reading(lent: &Lent, waited: Month, at: usize) -> FourValues
+    requires { RowIn lent.now.nodes.now at × FourWaited waited.0 × Near (slot_at lent.now.nodes.now at 2) }
+    ensures { SureFour result (λ k. reading_in lent.now.span.h lent.now.span.f lent.now.bounds.now lent.now.values.now (nat_of (slot_at lent.now.nodes.now at 1)) (pos (nat_of waited.0 + k) +ℤ slot_at lent.now.nodes.now at 2)) }
 {
-    let first = integers::later(waited, rows::month_at(nodes, at, 2));
-    let span = rows::span_of(h, f);
-    let place = lookup::four_places(*bounds, span, rows::label(nodes, at), first);
+    let first = integers::later(waited, rows::month_at(lent.nodes, at, 2));
+    let place = lookup::four_places(lent.bounds, lent.span, nodes::label(lent.nodes, at), first);
     match place {
-        Place::At(i) => values_at(*values, i),
-        Place::Nowhere => unsure(),
+        Some(i) => values_at(lent.values, i),
+        None => unsure(),
     }
 }
 
-pub fn over(nodes: &&[i64], at: usize, x: FourValues) -> FourValues
-    requires { RowIn nodes.now.now at × Divides (nat_of (slot_at nodes.now.now at 1)) × SmallFour x }
-    ensures { From (divided_by (nat_of (slot_at nodes.now.now at 1))) x result }
+pub fn over(nodes: &[i64], at: usize, x: FourValues) -> FourValues
+    requires { RowIn nodes.now at × Divides (nat_of (slot_at nodes.now at 1)) × SmallFour x }
+    ensures { From (divided_by (nat_of (slot_at nodes.now at 1))) x result }
 {
     FourValues {
         four: four_rows::over(nodes, at, x.four),

@@ -11,12 +11,8 @@ use Rattle.checked.specs.Answers.{amount_answer, divided_by, valued_answer}
 use Rattle.checked.specs.Checked.{value_found}
 use Rattle.checked.specs.Coded.{valued_in}
 use Rattle.checked.specs.Ranges.{Near}
-use Rattle.checked.specs.declared.answers.Valued.TheVariants as valued
-use Rattle.checked.specs.declared.answers.Valued.{Valued}
 use Rattle.integers.specs.Bounded.{Small, amount_within}
 use Rattle.integers.specs.Rounding.{floor_z}
-use Rattle.integers.specs.declared.Bounded.TheVariants as bounded
-use Rattle.integers.specs.declared.Bounded.{Bounded}
 use Rattle.integers.specs.declared.Pence.{Pence}
 use Rattle.language.proofs.Payoff.Evaluate.{in_range_lem}
 use Rattle.language.specs.Answer.{Answer, got, on_both, refused}
@@ -35,6 +31,8 @@ use lib.ListN.{get_or, length, set}
 use mathlib.Core.Bool.{cond}
 use mathlib.Core.List.{List, ◌∷◌}
 use mathlib.Core.Path.{◌∙◌, ◌≡◌, ap, refl, subst, sym}
+use Rattle.std.specs.Prelude.{Ok, Option, Result, Some}
+use Rattle.checked.specs.declared.answers.Fault.{Fault}
 
 -- the second of two answers comes first on the way back
 both_taken : (f : ℤ → ℤ → Answer ℤ) (R : ℤ → ℤ → Type 0) (P : ℤ → Type 0) (a b : Answer ℤ) → ((x y : ℤ) → a ≡ got x → b ≡ got y → taken (f x y) P → R x y)
@@ -63,7 +61,7 @@ module _ (h f : ℤ) (bounds values : List ℤ) (w : ℕ) where
   worth_of a = value_found h f bounds values a w
 
   small : (a : Amount ℤ) {z : ℤ} → worth_of a ≡ got z → Small z
-  small a {z} e = valued_small h f bounds values a w (valued.Value (record { 0 = z })) (sym e)
+  small a {z} e = valued_small h f bounds values a w (Ok (record { 0 = z })) (sym e)
 
   joined : (op : ℤ → ℤ → ℤ) (a b : Amount ℤ) (P : ℤ → Type 0) → taken (on_both (λ x y. in_range max_amount (op x y)) (worth_of a) (worth_of b)) P
       → taken (worth_of b) (λ y. taken (worth_of a) (λ x. Small x × Small y × taken (in_range max_amount (op x y)) P))
@@ -117,14 +115,14 @@ module _ (h f : ℤ) (bounds values : List ℤ) (w : ℕ) where
 
   module _ {nodes : List ℤ} {from to : ℕ} {a : Answer ℤ} {stack : List ℤ} {depth : ℕ} {top : ℤ} {at : ℕ} (p : loop.Passing checked_way nodes from to a stack depth top at) (l : from < at) where
     -- r is what the code reads, q the value that was found
-    pub read_row : loop.letter_there p l ≡ amount.Index → depth < 32 → {r : Valued} → valued_answer r ≡ read_at (slot_at nodes (at - 1) 1) (slot_at nodes (at - 1) 2)
-        → (q : Pence) → r ≡ valued.Value q → {z : ℤ} → z ≡ q.0 → loop.After p l (set stack depth top) (depth + 1) z
+    pub read_row : loop.letter_there p l ≡ amount.Index → depth < 32 → {r : Result Pence Fault} → valued_answer r ≡ read_at (slot_at nodes (at - 1) 1) (slot_at nodes (at - 1) 2)
+        → (q : Pence) → r ≡ Ok q → {z : ℤ} → z ≡ q.0 → loop.After p l (set stack depth top) (depth + 1) z
     read_row e d er q eq ez =
         loop.pushed_row p l d ez (subst (λ c. taken c (λ v. loop.Next p l (v ∷ loop.waiting stack depth top))) (sym er ∙ ap valued_answer eq) (loop.index_reads p l e).1)
 
     -- y is the cell as the code reads it, s the result, q the result within the limit
-    pub tested_row : (op : ℤ → ℤ → ℤ) → loop.Joins p l op → {y : ℤ} {s : Bounded} → y ≡ get_or stack (depth - 1) (pos 0) → s ≡ amount_within (op top y)
-        → (q : Pence) → s ≡ bounded.Within q → {z : ℤ} → z ≡ q.0 → loop.After p l stack (depth - 1) z
+    pub tested_row : (op : ℤ → ℤ → ℤ) → loop.Joins p l op → {y : ℤ} {s : Option Pence} → y ≡ get_or stack (depth - 1) (pos 0) → s ≡ amount_within (op top y)
+        → (q : Pence) → s ≡ Some q → {z : ℤ} → z ≡ q.0 → loop.After p l stack (depth - 1) z
     tested_row op j ey es q eq ez =
         let e = sym (amount_within_lem (op top (get_or stack (depth - 1) (pos 0)))) ∙ ap amount_answer (sym (es ∙ ap (λ v. amount_within (op top v)) ey) ∙ eq) in
         loop.joined_row p l ez (subst (λ c. taken c (λ v. loop.Next p l (loop.waiting stack (depth - 1) v))) e j.then.2)

@@ -17,7 +17,6 @@ use Rattle.columns.proofs.Weights.{both_adds, first_weighed, held_weighed, later
 use Rattle.columns.specs.Column.{Added, PennyFits, Sized, Weighed, penny_in}
 use Rattle.integers.proofs.Known.{amount_beyond, amount_came}
 use Rattle.integers.specs.Bounded.{Small, amount_within}
-use Rattle.integers.specs.declared.Bounded.TheVariants as bounded
 use Rattle.integers.specs.declared.Month.{Month}
 use Rattle.integers.specs.declared.Pence.{Pence}
 use Rattle.language.specs.Limits.{max_months, max_nodes}
@@ -31,6 +30,7 @@ use Rattle.nodes.specs.declared.PlanLetter.TheVariants as letter
 use Rattle.nodes.specs.declared.PlanLetter.{PlanLetter}
 use Rattle.pays.proofs.PlanNodes.{plan_asks_lem, plan_tree, plan_of, plan_stands_by}
 use Rattle.pays.proofs.PlanParts.{month_in_lem}
+use Rattle.std.specs.Prelude.{None, Some}
 
 pub record ColumnNode (values nodes column : List ℤ) (r : ℕ) (w : ℤ) (left at : ℕ) (l : PlanLetter) : Type 0 where
   pub some : 0 < left
@@ -97,7 +97,7 @@ module _ {values nodes column : List ℤ} {r : ℕ} {w : ℤ} {left at : ℕ} wh
       unfolding Sized
       scale_factors = rw ea (n.weighed.light, n.weighed.sized.1)
 
-      module _ (v : Pence) (e : bounded.Within v ≡ amount_within (w *ℤ a)) where
+      module _ (v : Pence) (e : Some v ≡ amount_within (w *ℤ a)) where
         is : v.0 ≡ w *ℤ value (flat values) (amount_at offset_of max_nodes nodes (at + 1)) r
         is = (amount_came (w *ℤ a) v e).0 ∙ ap (λ z. w *ℤ z) ea
 
@@ -107,7 +107,7 @@ module _ {values nodes column : List ℤ} {r : ℕ} {w : ℤ} {left at : ℕ} wh
         pub scale_arm : {p : ℕ} → p ≡ link_at nodes at 3 → (sg : Sign) → ((p q : ℕ) → nat_abs (sg p q) ≤ 1) → {after : List ℤ} → Added column after v.0 (paid values nodes sg r left p) → Added column after w (whole values nodes sg r left at)
         scale_arm ep sg unit {after} d = by_letter sg n (scale_adds n.weighed sg unit is (subst (λ p. Added column after v.0 (paid values nodes sg r left p)) ep d))
 
-      pub beyond_arm : bounded.OutOfRange ≡ amount_within (w *ℤ a) → (sg : Sign) → ((p q : ℕ) → nat_abs (sg p q) ≤ 1) → Added column column w (whole values nodes sg r left at)
+      pub beyond_arm : None ≡ amount_within (w *ℤ a) → (sg : Sign) → ((p q : ℕ) → nat_abs (sg p q) ≤ 1) → Added column column w (whole values nodes sg r left at)
       beyond_arm e sg unit = by_letter sg n (scale_beyond n.weighed sg unit (omega (arith, ap (λ z. nat_abs (w *ℤ z)) ea, amount_beyond (w *ℤ a) e)))
 
   -- ---- L

@@ -21,9 +21,7 @@ pub fn add_back(factors: &[i64], column: &[i64], rest: &mut [i64], months: usize
     ensures { (m : ℕ) → m < months → get_or rest.new m (pos 0) ≡ rest_from factors.now column.now months m }
 {
     let mut sum = Millionths(0);
-    let mut m = months;
-    while 0 < m {
-        m -= 1;
+    for m in (0..months).rev() {
         let due = due_in(factors, column, m);
         sum = integers::value_plus(due, sum);
         let x = sum.0;

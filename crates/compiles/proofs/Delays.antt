@@ -19,7 +19,7 @@ use Rattle.integers.proofs.Tests.{le_true, lt_true}
 use Rattle.integers.specs.Bounded.{Small}
 use Rattle.language.proofs.Truth.{and_e}
 use Rattle.language.specs.Limits.{max_months, max_settings}
-use Rattle.language.specs.Payoff.Compile.{delayed, insert, offset}
+use Rattle.language.specs.Payoff.Compile.{delayed, insert}
 use Rattle.language.specs.Text.Form.{delay_in_form, offset_in_form}
 use Rattle.language.specs.Text.Number.{between}
 use Rattle.language.specs.Text.Trees.{Delay, Month, months, setting}

@@ -13,7 +13,7 @@ use Rattle.language.specs.Text.Letters.{AmountLetter, Form, PlanLetter, TestLett
 use Rattle.language.specs.Text.Reader.{Trees, end}
 use Rattle.language.specs.Text.Trees.{Amount, Test, choose, conjunction, difference, disjunction, equal, index, less, negation, number, product, quotient, sum}
 use Rattle.language.specs.Text.Typed.{amount_tree, test_tree}
-use Rattle.nodes.specs.Rows.{field_slots, last_slots, rows, slots_of}
+use Rattle.nodes.specs.Rows.{field_slots, last_slots, slots_of}
 
 -- a change that leaves all but the indexes as they are
 pub record Keeps {M N : Type 0} (onAmount : Amount M → Amount N) (on_test : Test M → Test N) : Type 0 where

@@ -1,15 +1,11 @@
 // Rows appended to the first rows of a table.
 #![tactic(auto)]
 
-ghost use Rattle.std.specs.Prelude.{◌≡◌, ◌*◌, ◌+◌, ◌<◌, ◌≤◌, T, pos, length, [], ◌∷◌};
-ghost use Rattle.std.specs.Int.Signed.{non_neg};
+ghost use Rattle.std.specs.Prelude.{◌≡◌, ◌*◌, ◌+◌, ◌≤◌, pos, length, [], ◌∷◌};
 ghost use Rattle.copies.specs.Appended.{Appended};
-ghost use Rattle.integers.specs.Equal.{eq_z};
-ghost use Rattle.language.specs.Text.Number.{byte};
-ghost use Rattle.nodes.specs.Letters.{letter_of_plan};
-ghost use Rattle.nodes.specs.Table.{RowIn, link_at, slot_at};
+ghost use Rattle.nodes.specs.Table.{RowIn, slot_at};
 
-use nodes::PlanLetter;
+pub mod changes;
 
 #[derive(Clone, Copy)]
 pub struct Row {
@@ -54,45 +50,14 @@ pub fn put_letter(out: &mut [i64], count: usize, letter: i64) -> usize
 
 // ---- rows that move down: a table that is written to is lent as a slice
 
-// One number of a node's row.
-pub fn slot(nodes: &[i64], at: usize, k: usize) -> i64
-    requires { RowIn nodes.now at × (k < 5) }
-    ensures { result ≡ slot_at nodes.now at k }
-{
-    nodes::slot(&nodes, at, k)
-}
-
-// Where a node's second or third child stands.
-pub fn link(nodes: &[i64], at: usize, k: usize) -> usize
-    requires { RowIn nodes.now at × (k < 5) × T (non_neg (slot_at nodes.now at k)) }
-    ensures { result ≡ link_at nodes.now at k }
-{
-    nodes::link(&nodes, at, k)
-}
-
-pub fn plan_kind(nodes: &[i64], at: usize) -> PlanLetter
-    requires { RowIn nodes.now at }
-    ensures { result ≡ letter_of_plan (slot_at nodes.now at 0) }
-{
-    nodes::plan_letter(slot(nodes, at, 0))
-}
-
-// Whether a row is that of an `O`.
-pub fn is_index(nodes: &[i64], at: usize) -> bool
-    requires { RowIn nodes.now at }
-    ensures { result ≡ eq_z (slot_at nodes.now at 0) (pos (byte "O")) }
-{
-    slot(nodes, at, 0) == 79
-}
-
 // A row of a plan as it stands, without its links, as row `count`.
 pub fn copy_row(nodes: &mut [i64], count: usize, at: usize) -> usize
     requires { RowIn nodes.old at × (count ≤ at) }
     ensures { Appended nodes.old nodes.new count result (slot_at nodes.old at 0 ∷ slot_at nodes.old at 1 ∷ slot_at nodes.old at 2 ∷ pos 0 ∷ pos 0 ∷ []) }
 {
-    let letter = slot(nodes, at, 0);
-    let a = slot(nodes, at, 1);
-    let b = slot(nodes, at, 2);
+    let letter = nodes::slot(nodes, at, 0);
+    let a = nodes::slot(nodes, at, 1);
+    let b = nodes::slot(nodes, at, 2);
     put_row(
         nodes,
         count,

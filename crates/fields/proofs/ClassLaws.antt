@@ -1,11 +1,11 @@
 -- Laws of classes of fields and of their ranges.
 use Prim.Native.Nat.{◌+◌, ◌-◌, ◌<◌, ◌≤◌, ℕ}
-use borrow.Author.Tests.{eqb-true, le-leb, leb-true, lt-leb, ltb-false, ltb-true, ne_eqb}
+use borrow.Author.Tests.{le-leb, leb-true, lt-leb, ltb-false, ne_eqb}
 use lib.Dec.{eqb, leb}
 use lib.IntN.{nat_abs, negsuc, neg_ℤ, pos, ℤ}
 use lib.ListN.{get_or}
 use lib.Signed.{le_z, lt_z}
-use mathlib.Core.Bool.{Bool, ◌&&◌, ◌||◌, cond, false, not, true}
+use mathlib.Core.Bool.{Bool, ◌&&◌, ◌||◌, false, not, true}
 use mathlib.Core.List.{List, [], ◌∷◌}
 use mathlib.Core.Option.{Option, none, some}
 use mathlib.Core.Path.{◌∙◌, ◌≡◌, ap, refl, sym}
@@ -20,6 +20,8 @@ use Rattle.language.specs.Text.Trees.{months}
 use Rattle.nodes.specs.Rows.{delay_slot, field_slots}
 use Rattle.fields.specs.Classes.{Limited, class_of, from, range_of}
 use Rattle.fields.specs.Numbers.{BeyondZ}
+use Rattle.fields.specs.declared.field.Class as coded
+use Rattle.fields.specs.declared.field.Class.TheVariants.{Delay, Divisor, Figure, FromNode, Label, Month, Party}
 use Rattle.fields.specs.declared.field.Range.{Range}
 
 -- ---- order
@@ -32,26 +34,13 @@ or_true : (b : Bool) → (b || true) ≡ true
 or_true true = refl
 or_true false = refl
 
-lt_le : (a b : ℤ) → lt_z a b ≡ true → le_z b a ≡ false
-lt_le (pos a) (pos b) e = lt-leb b a (ltb-true a b e)
-lt_le (pos a) (negsuc b) e = let z : ◌≡◌ {A = ℕ} 0 1 = cc in absurd (omega arith)
-lt_le (negsuc a) (pos b) e = refl
-lt_le (negsuc a) (negsuc b) e = lt-leb a b (ltb-true b a e)
-
 ge_le : (a b : ℤ) → lt_z a b ≡ false → le_z b a ≡ true
 ge_le (pos a) (pos b) e = le-leb b a (ltb-false a b e)
 ge_le (pos a) (negsuc b) e = refl
 ge_le (negsuc a) (pos b) e = let z : ◌≡◌ {A = ℕ} 0 1 = cc in absurd (omega arith)
 ge_le (negsuc a) (negsuc b) e = le-leb a b (ltb-false b a e)
 
--- a test of two signed numbers, as the machine makes it
-pub test_signed : (v w : ℤ) (t : Bool) → SFits w64 v → SFits w64 w → lt_z (to_z w64 (of_z w64 v)) (to_z w64 (of_z w64 w)) ≡ t → lt_z v w ≡ t
-test_signed v w t p q e = sym (ap (λ (z : ℤ). lt_z z (to_z w64 (of_z w64 w))) (to_z-of_z w64 v p) ∙ ap (λ (z : ℤ). lt_z v z) (to_z-of_z w64 w q)) ∙ e
-
--- the same where one of them is a digit
-pub test_low : (d : ℕ) (w : ℤ) (t : Bool) → d ≤ 9 → SFits w64 w → lt_z (to_z w64 d) (to_z w64 (of_z w64 w)) ≡ t → lt_z (pos d) w ≡ t
-test_low d w t h q e = sym (ap (λ (z : ℤ). lt_z z (to_z w64 (of_z w64 w))) (to_z_pos w64 d (omega arith)) ∙ ap (λ (z : ℤ). lt_z (pos d) z) (to_z-of_z w64 w q)) ∙ e
-
+-- a test of a signed number and a digit, as the machine makes it
 pub test_high : (d : ℕ) (w : ℤ) (t : Bool) → d ≤ 9 → SFits w64 w → lt_z (to_z w64 (of_z w64 w)) (to_z w64 d) ≡ t → lt_z w (pos d) ≡ t
 test_high d w t h q e = sym (ap (λ (z : ℤ). lt_z (to_z w64 (of_z w64 w)) z) (to_z_pos w64 d (omega arith)) ∙ ap (λ (z : ℤ). lt_z z (pos d)) (to_z-of_z w64 w q)) ∙ e
 
@@ -62,12 +51,6 @@ small_fits (negsuc n) h = record { sfits = omega arith }
 -- ---- a number within a range
 
 module _ (lo hi v : ℤ) (o : Option ℤ) (is : o ≡ some v) where
-  pub ranged_low : lt_z v lo ≡ true → ranged lo hi o ≡ none
-  ranged_low e = rw (is, lt_le v lo e) refl
-
-  pub ranged_high : lt_z hi v ≡ true → ranged lo hi o ≡ none
-  ranged_high e = rw (is, lt_le hi v e, and_false (le_z lo v)) refl
-
   pub ranged_in : (w : ℤ) → w ≡ v → lt_z v lo ≡ false → lt_z hi v ≡ false → ranged lo hi o ≡ some w
   ranged_in w q e f = rw (is, ge_le v lo e, ge_le hi v f, q) refl
 
@@ -99,24 +82,19 @@ high_in : (z : ℤ) → nat_abs z ≤ 9000000000000 → le_z z (pos 900000000000
 high_in (pos n) h = le-leb n 9000000000000 h
 high_in (negsuc n) h = refl
 
-pub by_class : (Q : Class → Range → Type 0) (c : ℕ)
-    → Q figure (from (neg_ℤ (pos 9000000000000)) (pos 9000000000000)) → (c ≡ 2 → Q delay (from (pos 0) (pos 600))) → Q label (from (pos 0) (pos 7))
+pub by_class : (Q : Class → Range → Type 0) (c : coded.Class)
+    → Q figure (from (neg_ℤ (pos 9000000000000)) (pos 9000000000000)) → (c ≡ Delay → Q delay (from (pos 0) (pos 600))) → Q label (from (pos 0) (pos 7))
     → Q from_node (from (neg_ℤ (pos 60)) (pos 600)) → Q divisor (from (pos 1) (pos 9000000000000)) → Q party (from (pos 1) (pos 9)) → Q (class_of c) (range_of c)
-unfolding class_of range_of
-by_class Q c qf qd ql qn qv qp = go (eqb c 1) (eqb c 2) (eqb c 4) (eqb c 5) (eqb c 6) (λ e. qd (eqb-true c 2 e))
-  where
-    go : (b1 b2 b4 b5 b6 : Bool) → (b2 ≡ true → Q delay (from (pos 0) (pos 600)))
-        → Q (cond b1 figure (cond b2 delay (cond b4 label (cond b5 from_node (cond b6 divisor party)))))
-        (cond b1 (from (neg_ℤ (pos 9000000000000)) (pos 9000000000000)) (cond b2 (from (pos 0) (pos 600)) (cond b4 (from (pos 0) (pos 7))
-        (cond b5 (from (neg_ℤ (pos 60)) (pos 600)) (cond b6 (from (pos 1) (pos 9000000000000)) (from (pos 1) (pos 9)))))))
-    go true b2 b4 b5 b6 d = qf
-    go false true b4 b5 b6 d = d refl
-    go false false true b5 b6 d = ql
-    go false false false true b6 d = qn
-    go false false false false true d = qv
-    go false false false false false d = qp
+unfolding class_of
+by_class Q Figure qf qd ql qn qv qp = qf
+by_class Q Delay qf qd ql qn qv qp = qd refl
+by_class Q Party qf qd ql qn qv qp = qp
+by_class Q Label qf qd ql qn qv qp = ql
+by_class Q FromNode qf qd ql qn qv qp = qn
+by_class Q Divisor qf qd ql qn qv qp = qv
+by_class Q Month qf qd ql qn qv qp = qp
 
-pub limited : (c : ℕ) → Limited (range_of c)
+pub limited : (c : coded.Class) → Limited (range_of c)
 limited c = by_class (λ k r. Limited r) c (lim refl refl) (λ e. lim refl refl) (lim refl refl) (lim refl refl) (lim refl refl) (lim refl refl)
   where
     lim : {r : Range} → leb (nat_abs r.low) 9000000000000 ≡ true → leb (nat_abs r.high) 9000000000000 ≡ true → Limited r
@@ -158,7 +136,7 @@ module _ (f : List ℕ) where
   unfolding field_slots
   held k z lo hi q e = record { field = a_number z; is = q ∙ rw e refl; slot = refl }
 
-  pub plain_reads : (c : ℕ) (z : ℤ) → (c ≡ 2 → get_or f 0 0 ≡ 80 → ⊥) → Reads z (class_of c) (range_of c)
+  pub plain_reads : (c : coded.Class) (z : ℤ) → (c ≡ Delay → get_or f 0 0 ≡ 80 → ⊥) → Reads z (class_of c) (range_of c)
   unfolding field_of field_slots delay_slot
   plain_reads c z n =
       by_class (Reads z) c (held figure z (neg_ℤ (pos 9000000000000)) (pos 9000000000000) refl)
@@ -172,7 +150,7 @@ module _ (f : List ℕ) where
   fails : (k : Class) (lo hi : ℤ) → field_of k f ≡ as_number (ranged lo hi (read_number f)) → ranged lo hi (read_number f) ≡ none → field_of k f ≡ none
   fails k lo hi q e = q ∙ rw e refl
 
-  pub plain_fails : (c : ℕ) → (c ≡ 2 → get_or f 0 0 ≡ 80 → ⊥) → Fails (class_of c) (range_of c)
+  pub plain_fails : (c : coded.Class) → (c ≡ Delay → get_or f 0 0 ≡ 80 → ⊥) → Fails (class_of c) (range_of c)
   unfolding field_of
   plain_fails c n =
       by_class Fails c (fails figure (neg_ℤ (pos 9000000000000)) (pos 9000000000000) refl) (λ q e. rw (no_setting f (n q), e) refl)
@@ -184,8 +162,8 @@ module _ (f : List ℕ) where
   figure_reads z h e = held figure z (neg_ℤ (pos 9000000000000)) (pos 9000000000000) refl (rw (e, figure_in z h) refl)
 
   pub figure_fails : BeyondZ (read_number f) → field_of figure f ≡ none
-  unfolding range_of field_of
-  figure_fails h = fails figure (neg_ℤ (pos 9000000000000)) (pos 9000000000000) refl (ranged_beyond (range_of 1) (limited 1) (read_number f) h)
+  unfolding field_of
+  figure_fails h = fails figure (neg_ℤ (pos 9000000000000)) (pos 9000000000000) refl (ranged_beyond (range_of Figure) (limited Figure) (read_number f) h)
 
   -- and one from 1 on is a divisor
   pub divisor_reads : (z : ℤ) → nat_abs z ≤ 9000000000000 → lt_z z (pos 1) ≡ false → read_number f ≡ some z → Held divisor f (z ∷ [])

@@ -1,6 +1,5 @@
 -- Laws of fields in their places: the field at a byte, and several, one after the other.
 use Prim.Native.Nat.{◌+◌, ◌-◌, ◌<◌, ◌≤◌, ℕ}
-use borrow.Author.Tests.{eq-eqb, ne_eqb}
 use lib.IntN.{pos, ℤ}
 use lib.ListN.{drop, get_or, length}
 use mathlib.Core.List.{List, [], ◌∷◌}
@@ -13,16 +12,17 @@ use Rattle.language.specs.Text.Letters.{Class, month}
 use Rattle.language.specs.Text.Reader.{read_fields}
 use Rattle.nodes.specs.Rows.{slots_of}
 use Rattle.fields.specs.Classes.{class_of, range_of}
-use Rattle.fields.specs.Fields.{DigitIs, Four, Malformed, MonthIs, MonthTried, PairIs, ReadUpTo, SlotsAre, SlotsTried, Taken, TakenIs, TriedIs, Two, behind, classes_of_three, classes_of_two, first_as}
+use Rattle.fields.specs.Fields.{DigitIs, Four, Malformed, MonthIs, MonthTried, PairIs, ReadUpTo, SlotsAre, SlotsTried, Taken, TakenIs, TriedIs, Two, behind, classes_of_three, classes_of_two, first_as, is_month}
 use Rattle.fields.specs.Positions.{fields_from, up_to}
-use Rattle.fields.specs.declared.field.Taking.{Taking}
-use Rattle.fields.specs.declared.field.Taking.TheVariants.{Value, Wrong}
-use Rattle.fields.specs.declared.slots.Slots.{Slots}
-use Rattle.fields.specs.declared.slots.Slots.TheVariants.{Filled, Unfilled}
-use Rattle.fields.specs.declared.slots.Taking2.{Taking2}
-use Rattle.fields.specs.declared.slots.Taking2.TheVariants.{Values, Wrongs}
 use Rattle.fields.proofs.ClassLaws.{Held, number_digit, plain_fails, plain_reads}
 use Rattle.fields.proofs.Positions.{first_field, from_behind, up_comma, up_end, up_fits, up_more}
+use Rattle.std.specs.Prelude.{None, Option, Some}
+use Rattle.fields.specs.declared.field.Class as coded
+use Rattle.fields.specs.declared.field.Class.TheVariants.{Delay, Divisor, Figure, FromNode, Label, Month, Party}
+use Rattle.fields.specs.declared.field.Taking.{Taking}
+use mathlib.Core.Bool.{false}
+use Rattle.fields.specs.declared.slots.Slots.{Slots}
+use Rattle.fields.specs.declared.slots.TakingTwo.{TakingTwo}
 
 -- ---- the field at a byte
 
@@ -44,13 +44,13 @@ module _ (k : Class) (text : List ℕ) (at : ℕ) where
   failed_behind h = ap (first_as k) (from_behind text at h)
 
 -- a field of one digit
-pub digit_taken : (text : List ℕ) (at class b : ℕ) → at < length text → 48 ≤ b → b ≤ 57 → up_to 44 (drop at text) ≡ b ∷ []
-    → (r : Taking) → DigitIs (range_of class) (b - 48) (at + 2) r → TakenIs (class_of class) text at r
-digit_taken text at class b h l m e (Value z next) d =
+pub digit_taken : (text : List ℕ) (at : ℕ) (class : coded.Class) (b : ℕ) → at < length text → 48 ≤ b → b ≤ 57 → up_to 44 (drop at text) ≡ b ∷ []
+    → (r : Option Taking) → DigitIs (range_of class) (b - 48) (at + 2) r → TakenIs (class_of class) text at r
+digit_taken text at class b h l m e (Some it) d =
     let k : length (up_to 44 (drop at text)) ≡ 1 = ap length e in
-    taken_at (class_of class) text at (z ∷ []) next (omega arith) (omega (arith, d.ends))
-    (plain_reads _ class z (λ q p. omega (arith, sym (ap (λ (f : List ℕ). get_or f 0 0) e) ∙ p)) (rw (number_digit _ b e l m) d.is))
-digit_taken text at class b h l m e Wrong d =
+    taken_at (class_of class) text at (it.value ∷ []) it.next (omega arith) (omega (arith, d.ends))
+    (plain_reads _ class it.value (λ q p. omega (arith, sym (ap (λ (f : List ℕ). get_or f 0 0) e) ∙ p)) (rw (number_digit _ b e l m) d.is))
+digit_taken text at class b h l m e None d =
     failed_at (class_of class) text at (omega arith)
     (plain_fails _ class (λ q p. omega (arith, sym (ap (λ (f : List ℕ). get_or f 0 0) e) ∙ p)) (rw (number_digit _ b e l m) d))
 
@@ -59,18 +59,18 @@ pub digit_alone : (text : List ℕ) (at : ℕ) → at + 2 ≤ length text → 48
 digit_alone text at h l comma =
     up_more 44 text at (omega arith) (λ e. omega arith) (λ e. omega arith) ∙ ap (λ (l : List ℕ). get_or text at 0 ∷ l) (up_comma 44 text (at + 1) (omega arith) comma)
 
-module _ (text : List ℕ) (at class : ℕ) (l : 48 ≤ get_or text at 0) (m : get_or text at 0 ≤ 57) where
-  digit_told : at < length text → up_to 44 (drop at text) ≡ get_or text at 0 ∷ [] → (r : Taking) → DigitIs (range_of class) (get_or text at 0 - 48) (at + 2) r
+module _ (text : List ℕ) (at : ℕ) (class : coded.Class) (l : 48 ≤ get_or text at 0) (m : get_or text at 0 ≤ 57) where
+  digit_told : at < length text → up_to 44 (drop at text) ≡ get_or text at 0 ∷ [] → (r : Option Taking) → DigitIs (range_of class) (get_or text at 0 - 48) (at + 2) r
       → TriedIs (class_of class) text at r
-  digit_told h e (Value z next) d = (digit_taken text at class (get_or text at 0) h l m e (Value z next) d, d.ends)
-  digit_told h e Wrong d = tt
+  digit_told h e (Some it) d = (digit_taken text at class (get_or text at 0) h l m e (Some (record { value = it.value; next = it.next })) d, d.ends)
+  digit_told h e None d = tt
 
-  pub digit_tried : at + 2 ≤ length text → get_or text (at + 1) 0 ≡ 44 → (r : Taking) → DigitIs (range_of class) (get_or text at 0 - 48) (at + 2) r
+  pub digit_tried : at + 2 ≤ length text → get_or text (at + 1) 0 ≡ 44 → (r : Option Taking) → DigitIs (range_of class) (get_or text at 0 - 48) (at + 2) r
       → TriedIs (class_of class) text at r
   digit_tried h comma r d = digit_told (omega (arith, h)) (digit_alone text at h l comma) r d
 
   -- .. at the text's end
-  pub digit_last : at + 1 ≡ length text → (r : Taking) → DigitIs (range_of class) (get_or text at 0 - 48) (at + 2) r → TriedIs (class_of class) text at r
+  pub digit_last : at + 1 ≡ length text → (r : Option Taking) → DigitIs (range_of class) (get_or text at 0 - 48) (at + 2) r → TriedIs (class_of class) text at r
   digit_last h r d =
       digit_told (omega (arith, h))
       (up_more 44 text at (omega (arith, h)) (λ e. omega (arith, e, l)) (λ e. omega (arith, e, l)) ∙ ap (λ (f : List ℕ). get_or text at 0 ∷ f) (up_end 44 text (at + 1) (omega (arith, h)))) r d
@@ -118,25 +118,37 @@ module _ (text : List ℕ) (at : ℕ) where
 
 -- ---- up to two fields, and up to three
 
-module _ (text : List ℕ) (at : ℕ) where
-  pub two_none : (c d : ℕ) → c ≡ 0 → at ≤ length text + 1 → Two (classes_of_two c d) text at (pos 0) (pos 0) at
-  unfolding classes_of_two slots_of
-  two_none c d e h = rw (eq-eqb c 0 e) (record { values = []; all = read_none text at h; first = refl; second = refl; third = refl })
+pub no_month : (c : coded.Class) → (c ≡ Month → ⊥) → is_month c ≡ false
+no_month Figure m = refl
+no_month Delay m = refl
+no_month Party m = refl
+no_month Label m = refl
+no_month FromNode m = refl
+no_month Divisor m = refl
+no_month Month m = absurd (m refl)
 
-  pub month_alone : (c d : ℕ) → c ≡ 7 → classes_of_two c d ≡ month ∷ []
+pub party_alone : Party ≡ Month → ⊥
+party_alone e = let z : ◌≡◌ {A = ℕ} 0 1 = cc in absurd (omega arith)
+
+module _ (text : List ℕ) (at : ℕ) where
+  pub two_none : (c d : Option coded.Class) → c ≡ None → at ≤ length text + 1 → Two (classes_of_two c d) text at (pos 0) (pos 0) at
+  unfolding classes_of_two slots_of
+  two_none c d e h = rw e (record { values = []; all = read_none text at h; first = refl; second = refl; third = refl })
+
+  pub month_alone : (c : coded.Class) (d : Option coded.Class) → c ≡ Month → classes_of_two (Some c) d ≡ month ∷ []
   unfolding classes_of_two
   month_alone c d e = rw e refl
 
-  pub two_month : (r : Taking2) → MonthIs text at r → PairIs (month ∷ []) text at r
+  pub two_month : (r : Option TakingTwo) → MonthIs text at r → PairIs (month ∷ []) text at r
   unfolding slots_of
-  two_month (Values a b next) t = record {
+  two_month (Some it) t = record {
     values = t.field ∷ [];
-    all = read_more text at month [] _ next t [] next (read_none text next t.within);
+    all = read_more text at month [] _ it.next t [] it.next (read_none text it.next t.within);
     first = rw t.slot refl;
     second = rw t.slot refl;
     third = rw t.slot refl;
   }
-  two_month Wrongs e = bad_first text at month [] e
+  two_month None e = bad_first text at month [] e
 
   -- a field with none behind it
   alone : (k : Class) (a : ℤ) (next : ℕ) → Taken k text at (a ∷ []) next → Two (k ∷ []) text at a (pos 0) next
@@ -149,47 +161,47 @@ module _ (text : List ℕ) (at : ℕ) where
     third = rw t.slot refl;
   }
 
-  module _ (c d : ℕ) (n : c ≡ 0 → ⊥) (m : c ≡ 7 → ⊥) where
-    pub one_class : d ≡ 0 → classes_of_two c d ≡ class_of c ∷ []
+  module _ (c : coded.Class) (d : Option coded.Class) (m : c ≡ Month → ⊥) where
+    pub one_class : d ≡ None → classes_of_two (Some c) d ≡ class_of c ∷ []
     unfolding classes_of_two
-    one_class e = rw (ne_eqb c 0 n, ne_eqb c 7 m, eq-eqb d 0 e) refl
+    one_class e = rw (no_month c m, e) refl
 
-    pub two_classes : (d ≡ 0 → ⊥) → classes_of_two c d ≡ class_of c ∷ class_of d ∷ []
+    pub two_classes : (k : coded.Class) → d ≡ Some k → classes_of_two (Some c) d ≡ class_of c ∷ class_of k ∷ []
     unfolding classes_of_two
-    two_classes e = rw (ne_eqb c 0 n, ne_eqb c 7 m, ne_eqb d 0 e) refl
+    two_classes k e = rw (no_month c m, e) refl
 
-    pub two_first_bad : first_as (class_of c) (fields_from text at) ≡ none → Malformed (classes_of_two c d) text at
+    pub two_first_bad : first_as (class_of c) (fields_from text at) ≡ none → Malformed (classes_of_two (Some c) d) text at
     unfolding classes_of_two
-    two_first_bad e = rw (ne_eqb c 0 n, ne_eqb c 7 m) (bad_first text at (class_of c) _ e)
+    two_first_bad e = rw (no_month c m) (bad_first text at (class_of c) _ e)
 
     module _ (a : ℤ) (next : ℕ) (t : Taken (class_of c) text at (a ∷ []) next) where
-      pub two_one : (z : ℤ) → z ≡ a → d ≡ 0 → Two (classes_of_two c d) text at z (pos 0) next
+      pub two_one : (z : ℤ) → z ≡ a → d ≡ None → Two (classes_of_two (Some c) d) text at z (pos 0) next
       two_one z q e = rw (one_class e, q) (alone (class_of c) a next t)
 
-      pub two_second_bad : (d ≡ 0 → ⊥) → first_as (class_of d) (fields_from text next) ≡ none → Malformed (classes_of_two c d) text at
-      two_second_bad e h = rw (two_classes e) (bad_later text at (class_of c) _ _ next t (bad_first text next (class_of d) [] h))
+      pub two_second_bad : (k : coded.Class) → d ≡ Some k → first_as (class_of k) (fields_from text next) ≡ none → Malformed (classes_of_two (Some c) d) text at
+      two_second_bad k e h = rw (two_classes k e) (bad_later text at (class_of c) _ _ next t (bad_first text next (class_of k) [] h))
 
-      pub two_two : (b : ℤ) (end : ℕ) → Taken (class_of d) text next (b ∷ []) end → (y z : ℤ) → y ≡ a → z ≡ b → (d ≡ 0 → ⊥) → Two (classes_of_two c d) text at y z end
+      pub two_two : (k : coded.Class) (b : ℤ) (end : ℕ) → Taken (class_of k) text next (b ∷ []) end → (y z : ℤ) → y ≡ a → z ≡ b → d ≡ Some k → Two (classes_of_two (Some c) d) text at y z end
       unfolding slots_of
-      two_two b end u y z p q e = rw (two_classes e, p, q) (record {
+      two_two k b end u y z p q e = rw (two_classes k e, p, q) (record {
         values = t.field ∷ u.field ∷ [];
-        all = read_more text at (class_of c) _ _ next t _ end (read_more text next (class_of d) [] _ end u [] end (read_none text end u.within));
+        all = read_more text at (class_of c) _ _ next t _ end (read_more text next (class_of k) [] _ end u [] end (read_none text end u.within));
         first = rw t.slot refl;
         second = rw (t.slot, u.slot) refl;
         third = rw (t.slot, u.slot) refl;
       })
 
-  pub four_none : (c d e : ℕ) → c ≡ 0 → at ≤ length text + 1 → Four (classes_of_three c d e) text at (pos 0) (pos 0) (pos 0) (pos 0) at
+  pub four_none : (c d e : Option coded.Class) → c ≡ None → at ≤ length text + 1 → Four (classes_of_three c d e) text at (pos 0) (pos 0) (pos 0) (pos 0) at
   unfolding classes_of_three slots_of
-  four_none c d e q h = rw (eq-eqb c 0 q) (record { values = []; all = read_none text at h; first = refl; second = refl; third = refl; fourth = refl })
+  four_none c d e q h = rw q (record { values = []; all = read_none text at h; first = refl; second = refl; third = refl; fourth = refl })
 
-  pub three_month : (c d e : ℕ) → c ≡ 7 → classes_of_three c d e ≡ month ∷ classes_of_two d e
+  pub three_month : (c : coded.Class) (d e : Option coded.Class) → c ≡ Month → classes_of_three (Some c) d e ≡ month ∷ classes_of_two d e
   unfolding classes_of_three
   three_month c d e q = rw q refl
 
-  pub three_field : (c d e : ℕ) → (c ≡ 0 → ⊥) → (c ≡ 7 → ⊥) → classes_of_three c d e ≡ class_of c ∷ classes_of_two d e
+  pub three_field : (c : coded.Class) (d e : Option coded.Class) → (c ≡ Month → ⊥) → classes_of_three (Some c) d e ≡ class_of c ∷ classes_of_two d e
   unfolding classes_of_three
-  three_field c d e n m = rw (ne_eqb c 0 n, ne_eqb c 7 m) refl
+  three_field c d e m = rw (no_month c m) refl
 
   pub four_month : (ks : List Class) (a b c d : ℤ) (next end : ℕ) → Taken month text at (a ∷ b ∷ []) next → Two ks text next c d end
       → (w x y z : ℤ) → w ≡ a → x ≡ b → y ≡ c → z ≡ d → Four (month ∷ ks) text at w x y z end
@@ -230,12 +242,12 @@ module _ (text : List ℕ) (at : ℕ) where
 
   -- ---- fields of one digit, where any others are not told
 
-  module _ (r : Taking) (a : ℤ) (next : ℕ) (e : r ≡ Value a next) where
+  module _ (r : Option Taking) (a : ℤ) (next : ℕ) (e : r ≡ Some (record { value = a; next = next })) where
     pub tried_alone : (k : Class) → TriedIs k text at r → Two (k ∷ []) text at a (pos 0) next
     tried_alone k h = alone k a next (subst (TriedIs k text at) e h).0
 
     pub tried_month : MonthTried text at r → Two (month ∷ []) text at a (pos 0) next
-    tried_month h = two_month (Values a (pos 0) next) (subst (MonthTried text at) e h).0
+    tried_month h = two_month (Some (record { a = a; b = pos 0; next = next })) (subst (MonthTried text at) e h).0
 
     -- the first of two: the other stands behind its comma
     pub tried_first : (k : Class) (ks : List Class) → TriedIs k text at r → (b : ℤ) (end : ℕ) → Two ks text (at + 2) b (pos 0) end
@@ -245,18 +257,6 @@ module _ (text : List ℕ) (at : ℕ) where
         four_field k ks a b (pos 0) (at + 2) end (subst (λ (n : ℕ). Taken k text at (a ∷ []) n) t.1 t.0) two x y (pos 0) p q refl
 
 -- where all is known of fields, something is
-pub are_tried : (cs : List Class) (text : List ℕ) (at : ℕ) (r : Slots) → SlotsAre cs text at r → SlotsTried cs text at r
-are_tried cs text at (Filled a b c d next) f = f
-are_tried cs text at Unfilled f = tt
-
--- the same fields, from the machine's numbers
-pub four_same : (cs : List Class) (text : List ℕ) (at : ℕ) (a b c d : ℤ) (next : ℕ) → Four cs text at a b c d next
-    → (w x y z : ℤ) → w ≡ a → x ≡ b → y ≡ c → z ≡ d → Four cs text at w x y z next
-four_same cs text at a b c d next f w x y z p q r s = record {
-  values = f.values;
-  all = f.all;
-  first = f.first ∙ sym p;
-  second = f.second ∙ sym q;
-  third = f.third ∙ sym r;
-  fourth = f.fourth ∙ sym s;
-}
+pub are_tried : (cs : List Class) (text : List ℕ) (at : ℕ) (r : Option Slots) → SlotsAre cs text at r → SlotsTried cs text at r
+are_tried cs text at (Some it) f = f
+are_tried cs text at None f = tt

@@ -1,5 +1,5 @@
 -- A payoff's month in two parts: up to the first plus, and from there on.
-use Prim.Native.Nat.{◌+◌, ◌-◌, ℕ}
+use Prim.Native.Nat.{◌+◌, ℕ}
 use borrow.Author.Tests.{eqb-false, eqb-true, ne_eqb}
 use lib.Dec.{eqb}
 use lib.ListN.{drop, length}
@@ -8,7 +8,6 @@ use mathlib.Core.List.{List, [], ◌∷◌}
 use mathlib.Core.Path.{◌≡◌, ap, refl}
 use native.Mathlib.Omega.{arith}
 use Rattle.language.specs.Text.Fields.{in_front, split_at}
-use Rattle.language.specs.Text.Letters.{month}
 use Rattle.fields.specs.Fields.{behind}
 use Rattle.fields.specs.Positions.{up_to}
 

@@ -9,18 +9,20 @@ use mathlib.Core.Bool.{Bool, ◌&&◌, ◌||◌, false, not, true}
 use mathlib.Core.List.{List, [], ◌∷◌, foldl}
 use mathlib.Core.Logic.{◌⊎◌, inl, inr}
 use mathlib.Core.Option.{Option, none, some}
+use Rattle.language.specs.Limits.{max_amount}
 use mathlib.Core.Path.{◌∙◌, ◌≡◌, ap, refl}
 use native.Mathlib.Omega.{arith}
 use mir.Syntax.{w64}
 use mir.Val.{SFits, to_z}
 use mir.ValLaws.{to_z_pos}
-use Rattle.language.specs.Text.Number.{alone, digit, digits, keep, negative, positive, read_natural, read_number, shift, value_of}
+use Rattle.language.specs.Text.Number.{alone, digits, keep, negative, positive, read_natural, read_number, shift, value_of}
 use Rattle.fields.specs.Numbers.{Beyond, BeyondZ, DigitsAre, FewAre, NaturalIs, NumberIs, NumberTried, Run, SmallNatural, Whole, minus, plus}
 use Rattle.fields.specs.Positions.{up_to}
-use Rattle.fields.specs.declared.numbers.Natural.{Natural}
-use Rattle.fields.specs.declared.numbers.Natural.TheVariants.{Malformed, Plain}
-use Rattle.fields.specs.declared.numbers.Number.TheVariants.{Bad, Is}
 use Rattle.fields.proofs.Positions.{up_more}
+use Rattle.std.specs.Prelude.{None, Some}
+use Rattle.fields.specs.declared.numbers.Natural.{Natural}
+use Rattle.fields.specs.declared.numbers.Number.{Number}
+use Rattle.std.specs.Prelude as std
 
 -- ---- digits: `rest` is left of `f`, and those before have the value v
 
@@ -115,13 +117,13 @@ natural_zero (c ∷ []) h e = absurd (omega arith)
 natural_zero (c ∷ d ∷ cs) h e = rw (eq-eqb c 48 e, and_false (digits (c ∷ d ∷ cs))) tt
 
 -- a row of digits that does not start with a zero
-pub natural_led : (f : List ℕ) (at : ℕ) → 0 < length f → (get_or f 0 0 ≡ 48 → ⊥) → (n : Natural) → DigitsAre f at n → NaturalIs f at n
-natural_led f at some-digit led (Plain v end) r = go (eqb (length f) 1) refl
+pub natural_led : (f : List ℕ) (at : ℕ) → 0 < length f → (get_or f 0 0 ≡ 48 → ⊥) → (n : std.Option Natural) → DigitsAre f at n → NaturalIs f at n
+natural_led f at some-digit led (Some it) r = go (eqb (length f) 1) refl
   where
-    go : (b : Bool) → eqb (length f) 1 ≡ b → Whole f at v end
-    go true e = natural_one f at v end r (eqb-true (length f) 1 e)
-    go false e = let n : length f ≡ 1 → ⊥ = eqb-false (length f) 1 e in natural_more f at v end r (omega (arith, n)) led
-natural_led f at some-digit led Malformed d = natural_broken f d
+    go : (b : Bool) → eqb (length f) 1 ≡ b → Whole f at it.value it.end
+    go true e = natural_one f at it.value it.end r (eqb-true (length f) 1 e)
+    go false e = let n : length f ≡ 1 → ⊥ = eqb-false (length f) 1 e in natural_more f at it.value it.end r (omega (arith, n)) led
+natural_led f at some-digit led None d = natural_broken f d
 
 -- .. in a text, from byte `at` on to a comma
 module _ (text : List ℕ) (at : ℕ) (h : at < length text) (low : 49 ≤ get_or text at 0) (high : get_or text at 0 ≤ 57) where
@@ -131,7 +133,7 @@ module _ (text : List ℕ) (at : ℕ) (h : at < length text) (low : 49 ≤ get_o
   pub led_head : get_or (up_to 44 (drop at text)) 0 0 ≡ get_or text at 0
   led_head = ap (λ (f : List ℕ). get_or f 0 0) led
 
-  pub led_natural : (n : Natural) → DigitsAre (up_to 44 (drop at text)) at n → NaturalIs (up_to 44 (drop at text)) at n
+  pub led_natural : (n : std.Option Natural) → DigitsAre (up_to 44 (drop at text)) at n → NaturalIs (up_to 44 (drop at text)) at n
   led_natural n d =
       let k : length (up_to 44 (drop at text)) ≡ suc (length (up_to 44 (drop (at + 1) text))) = ap length led in
       natural_led (up_to 44 (drop at text)) at (omega (arith, k)) (λ e. omega (arith, led_head, e)) n d
@@ -152,20 +154,23 @@ unfolding read_number read_natural
 number_plain [] n = refl
 number_plain (c ∷ cs) n = rw (ne_eqb c 45 n) refl
 
-pub number_plus : (f : List ℕ) (at : ℕ) → (get_or f 0 0 ≡ 45 → ⊥) → (n : Natural) → NaturalIs f at n → NumberIs f at (plus n)
+pub number_plus : (f : List ℕ) (at : ℕ) → (get_or f 0 0 ≡ 45 → ⊥) → (n : std.Option Natural) → NaturalIs f at n → NumberIs f at (plus n)
 unfolding plus
-number_plus f at q (Plain v end) w = record { is = number_plain f q ∙ ap positive w.is; small = w.small; ends = w.ends }
-number_plus f at q Malformed w = rw (number_plain f q) (beyond_plus (read_natural f) w)
+number_plus f at q (Some it) w = record { is = number_plain f q ∙ ap positive w.is; small = w.small; ends = w.ends }
+number_plus f at q None w = rw (number_plain f q) (beyond_plus (read_natural f) w)
 
-pub number_minus : (f g : List ℕ) (at : ℕ) → f ≡ 45 ∷ g → (n : Natural) → NaturalIs g (at + 1) n → NumberIs f at (minus n)
+pub number_minus : (f g : List ℕ) (at : ℕ) → f ≡ 45 ∷ g → (n : std.Option Natural) → NaturalIs g (at + 1) n → NumberIs f at (minus n)
 unfolding minus read_number
-number_minus f g at e (Plain zero end) w = rw (e, w.is) tt
-number_minus f g at e (Plain (suc v) end) w = rw (ne_eqb (suc v) 0 (λ q. omega arith)) (record {
-  is = rw (e, w.is) refl;
-  small = w.small;
-  ends = let q : length f ≡ suc (length g) = ap length e in omega (arith, w.ends);
-})
-number_minus f g at e Malformed w = rw e (beyond_minus (read_natural g) w)
+number_minus f g at e (Some it) w = by it.value w.is w.small
+  where
+    by : (v : ℕ) → read_natural g ≡ some v → v ≤ max_amount → NumberIs f at (minus (Some (record { value = v; end = it.end })))
+    by zero is small = rw (e, is) tt
+    by (suc v) is small = rw (ne_eqb (suc v) 0 (λ q. omega arith)) (record {
+      is = rw (e, is) refl;
+      small = small;
+      ends = let q : length f ≡ suc (length g) = ap length e in omega (arith, w.ends);
+    })
+number_minus f g at e None w = rw e (beyond_minus (read_natural g) w)
 
 -- ---- a magnitude within the limit, as the machine reads it
 
@@ -182,42 +187,42 @@ mag_neg (suc v) = omega arith
 pub neg_fits : (v : ℕ) → v ≤ 9000000000000 → SFits w64 (neg_ℤ (pos v))
 neg_fits v h = record { sfits = omega (arith, mag_neg v) }
 
-pub small_natural : (f : List ℕ) (at : ℕ) (n : Natural) → NaturalIs f at n → SmallNatural n
-small_natural f at (Plain v end) w = w.small
-small_natural f at Malformed w = tt
+pub small_natural : (f : List ℕ) (at : ℕ) (n : std.Option Natural) → NaturalIs f at n → SmallNatural n
+small_natural f at (Some it) w = w.small
+small_natural f at None w = tt
 
 -- ---- with a sign, from the machine's number
 
-pub plus_some : (v end : ℕ) (z : ℤ) → z ≡ pos v → Is z end ≡ plus (Plain v end)
+pub plus_some : (v end : ℕ) (z : ℤ) → z ≡ pos v → ◌≡◌ {A = std.Option Number} (Some (record { value = z; end = end })) (plus (Some (record { value = v; end = end })))
 unfolding plus
 plus_some v end z e = rw e refl
 
-pub plus_bad : Bad ≡ plus Malformed
+pub plus_bad : None ≡ plus None
 unfolding plus
 plus_bad = refl
 
-pub minus_zero : (v end : ℕ) → v ≡ 0 → Bad ≡ minus (Plain v end)
+pub minus_zero : (v end : ℕ) → v ≡ 0 → None ≡ minus (Some (record { value = v; end = end }))
 unfolding minus
 minus_zero v end h = simp (eq-eqb v 0 h)
 
-pub minus_some : (v end : ℕ) (z : ℤ) → (v ≡ 0 → ⊥) → z ≡ neg_ℤ (pos v) → Is z end ≡ minus (Plain v end)
+pub minus_some : (v end : ℕ) (z : ℤ) → (v ≡ 0 → ⊥) → z ≡ neg_ℤ (pos v) → ◌≡◌ {A = std.Option Number} (Some (record { value = z; end = end })) (minus (Some (record { value = v; end = end })))
 unfolding minus
 minus_some v end z h e = rw (ne_eqb v 0 h, e) refl
 
-pub minus_bad : Bad ≡ minus Malformed
+pub minus_bad : None ≡ minus None
 unfolding minus
 minus_bad = refl
 
 -- ---- up to three digits
 
-pub few_small : (f : List ℕ) (at : ℕ) (n : Natural) → FewAre f at n → SmallNatural n
-few_small f at (Plain v end) r = r.small
-few_small f at Malformed r = tt
+pub few_small : (f : List ℕ) (at : ℕ) (n : std.Option Natural) → FewAre f at n → SmallNatural n
+few_small f at (Some it) r = r.small
+few_small f at None r = tt
 
 -- with a digit above 0 in front
-pub tried_plus : (text : List ℕ) (at : ℕ) → at < length text → 48 < get_or text at 0 → get_or text at 0 ≤ 57 → (n : Natural) → FewAre (up_to 44 (drop at text)) at n
+pub tried_plus : (text : List ℕ) (at : ℕ) → at < length text → 48 < get_or text at 0 → get_or text at 0 ≤ 57 → (n : std.Option Natural) → FewAre (up_to 44 (drop at text)) at n
     → NumberTried (up_to 44 (drop at text)) at (plus n)
 unfolding plus
-tried_plus text at h l u (Plain v end) r =
-    number_plus (up_to 44 (drop at text)) at (λ e. omega (arith, led_head text at h l u, e)) (Plain v end) (led_natural text at h l u (Plain v end) r)
-tried_plus text at h l u Malformed r = tt
+tried_plus text at h l u (Some it) r =
+    number_plus (up_to 44 (drop at text)) at (λ e. omega (arith, led_head text at h l u, e)) (Some (record { value = it.value; end = it.end })) (led_natural text at h l u (Some (record { value = it.value; end = it.end })) r)
+tried_plus text at h l u None r = tt

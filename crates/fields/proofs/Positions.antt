@@ -1,5 +1,5 @@
 -- Laws of the fields from a byte on, and of the bytes up to the next comma or stop.
-use Prim.Native.Nat.{◌+◌, ◌-◌, ◌<◌, ◌≤◌, suc, zero, ℕ}
+use Prim.Native.Nat.{◌+◌, ◌<◌, ◌≤◌, suc, zero, ℕ}
 use borrow.Author.Tests.{eq-eqb, le-leb, leb-false, leb-true, lt-leb, ne_eqb}
 use lib.Dec.{eqb, leb}
 use lib.ListN.{drop, drop_of_length-le, get_or, length, length-drop}

@@ -1,11 +1,11 @@
 -- A month's settings as the code reads them: three bytes each, lowest first, at most 31.
-use Rattle.std.specs.Prelude.{◌+◌, ◌^◌, ℕ, eqb, leb, ltb, pos, ℤ, length, ◌&&◌, cond, List, [], ◌∷◌, ◌≡◌}
+use Rattle.std.specs.Prelude.{◌+◌, ◌^◌, ℕ, eqb, leb, ltb, pos, ℤ, length, ◌&&◌, cond, List, [], ◌∷◌, ◌≡◌, None, Some}
 use Rattle.std.proofs.Math.Option.{Option, none, some}
 use Rattle.language.specs.Limits.{max_terms}
 use Rattle.language.specs.Text.Classes.{read_setting}
 use Rattle.language.specs.Text.Number.{byte}
 use Rattle.fields.specs.declared.field.Taking.{Taking}
-use Rattle.fields.specs.declared.field.Taking.TheVariants.{Value, Wrong}
+use Rattle.std.specs.Prelude as std
 
 -- one setting more, where n have been read and none is above low
 abbrev pub one_more : ℕ → ℕ → Option ℕ → (ℕ → Option ℕ) → Option ℕ
@@ -26,6 +26,6 @@ pub record Summed (f : List ℕ) (at : ℕ) (z : ℤ) (next : ℕ) : Type 0 wher
   pub value : z ≡ pos slot
   pub ends : next ≡ at + length f + 1
 
-abbrev pub SettingsAre : List ℕ → ℕ → Taking → Type 0
-SettingsAre f at (Value z next) = Summed f at z next
-SettingsAre f at Wrong = settings_from 0 0 0 f ≡ none
+abbrev pub SettingsAre : List ℕ → ℕ → std.Option Taking → Type 0
+SettingsAre f at (Some it) = Summed f at it.value it.next
+SettingsAre f at None = settings_from 0 0 0 f ≡ none

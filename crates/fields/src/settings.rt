@@ -8,33 +8,24 @@ ghost use Rattle.fields.specs.Settings.{SettingsAre};
 use crate::field::Taking;
 
 // P0 to P7 as a whole field: the setting k is kept as -1 - k.
-pub fn read_setting(text: &[u8], at: usize) -> Taking
+pub fn read_setting(text: &[u8], at: usize) -> Option<Taking>
     requires { (at < length text.now) × (get_or text.now at 0 ≡ 80) }
     ensures { TakenIs delay text.now at result }
 {
     if text.len() - at < 2 {
-        return Taking::Wrong;
+        return None;
     }
     let c = text[at + 1];
-    if c < b'0' {
-        return Taking::Wrong;
+    if c < b'0' || b'7' < c {
+        return None;
     }
-    if b'7' < c {
-        return Taking::Wrong;
+    if text.len() - at != 2 && text[at + 2] != b',' {
+        return None;
     }
-    if text.len() - at == 2 {
-        return Taking::Value {
-            value: 0 - (c - 47) as i64,
-            next: at + 3,
-        };
-    }
-    if text[at + 2] == b',' {
-        return Taking::Value {
-            value: 0 - (c - 47) as i64,
-            next: at + 3,
-        };
-    }
-    Taking::Wrong
+    Some(Taking {
+        value: 0 - i64::from(c - 47),
+        next: at + 3,
+    })
 }
 
 // 32 to the setting's number.
@@ -55,27 +46,16 @@ fn weight(c: u8) -> u64
     }
 }
 
-// A byte as a number that others are added to.
-fn wide(b: u8) -> u64
-    ensures { result ≡ b }
-{
-    b as u64
-}
-
 // The settings that are read start below this byte: at most 31 from byte `at` on, each of three bytes of the text.
 fn starts_end(len: usize, at: usize) -> usize
     requires { at ≤ len }
     ensures { result ≡ min len (at + 93) - 2 }
 {
-    if len - at < 93 {
-        if len < 2 { 0 } else { len - 2 }
-    } else {
-        at + 91
-    }
+    len.min(at.saturating_add(93)).saturating_sub(2)
 }
 
-// A month's settings, lowest first: how often each is added, as digits in base 32.
-fn read_settings(text: &[u8], at: usize) -> Taking
+// A month's settings, lowest first: how often each is added, as digits in base 32. Not a `for`: the byte that the loop stops at is asked for behind it.
+fn read_settings(text: &[u8], at: usize) -> Option<Taking>
     requires { at ≤ length text.now }
     ensures { SettingsAre (up_to 44 (drop at text.now)) at result }
 {
@@ -85,40 +65,36 @@ fn read_settings(text: &[u8], at: usize) -> Taking
     let mut i = at;
     while i < end {
         // `+P` as one number of two bytes
-        if wide(text[i]) + 256 * wide(text[i + 1]) != 20523 {
+        if u64::from(text[i]) + 256 * u64::from(text[i + 1]) != 20523 {
             break;
         }
         let c = text[i + 2];
         if (c < low) | (b'7' < c) {
-            return Taking::Wrong;
+            return None;
         }
         acc += weight(c);
         low = c;
         i += 3;
     }
-    if i < text.len() {
-        if text[i] != b',' {
-            return Taking::Wrong;
-        }
+    if i < text.len() && text[i] != b',' {
+        return None;
     }
-    Taking::Value {
+    Some(Taking {
         value: acc as i64,
         next: i + 1,
-    }
+    })
 }
 
 // The same: most months have no settings.
-pub fn quick_settings(text: &[u8], at: usize) -> Taking
+pub fn quick_settings(text: &[u8], at: usize) -> Option<Taking>
     requires { at ≤ length text.now }
     ensures { SettingsAre (up_to 44 (drop at text.now)) at result }
 {
-    if at < text.len() {
-        if text[at] == b',' {
-            return Taking::Value {
-                value: 0,
-                next: at + 1,
-            };
-        }
+    if at < text.len() && text[at] == b',' {
+        return Some(Taking {
+            value: 0,
+            next: at + 1,
+        });
     }
     read_settings(text, at)
 }

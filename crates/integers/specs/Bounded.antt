@@ -1,9 +1,7 @@
 -- How far from zero an amount and a value may be, and the answer where one is further.
-use Rattle.std.specs.Prelude.{◌≤◌, ℕ, leb, nat_abs, ℤ, cond}
-use Rattle.integers.specs.declared.Bounded.{Bounded}
-use Rattle.integers.specs.declared.Bounded.TheVariants as amount
-use Rattle.integers.specs.declared.BoundedValue.{BoundedValue}
-use Rattle.integers.specs.declared.BoundedValue.TheVariants as value
+use Rattle.std.specs.Prelude.{◌≤◌, ℕ, leb, nat_abs, ℤ, cond, None, Option, Some}
+use Rattle.integers.specs.declared.Millionths.{Millionths}
+use Rattle.integers.specs.declared.Pence.{Pence}
 
 -- amounts in whole pence
 abbrev pub amount_limit : ℕ
@@ -22,9 +20,9 @@ pub record SmallValue (z : ℤ) : Type 0 where
   pub small : nat_abs z ≤ value_limit
 
 -- the amount, or out of range where it is beyond the limit either side of zero
-unfoldable pub amount_within : ℤ → Bounded
-amount_within z = cond (leb (nat_abs z) amount_limit) (amount.Within (record { 0 = z })) amount.OutOfRange
+unfoldable pub amount_within : ℤ → Option Pence
+amount_within z = cond (leb (nat_abs z) amount_limit) (Some (record { 0 = z })) None
 
 -- the value, or out of range where it is beyond the limit either side of zero
-unfoldable pub value_within : ℤ → BoundedValue
-value_within z = cond (leb (nat_abs z) value_limit) (value.Within (record { 0 = z })) value.OutOfRange
+unfoldable pub value_within : ℤ → Option Millionths
+value_within z = cond (leb (nat_abs z) value_limit) (Some (record { 0 = z })) None

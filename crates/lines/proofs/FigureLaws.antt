@@ -10,9 +10,8 @@ use Rattle.fields.proofs.NumberLaws.{led_natural, minus_some, number_minus, numb
 use Rattle.fields.proofs.Positions.{head_ne, head_none, up_more}
 use Rattle.fields.specs.Numbers.{NaturalIs, NumberIs, Run}
 use Rattle.fields.specs.Positions.{up_to}
-use Rattle.fields.specs.declared.numbers.Natural.TheVariants.{Plain}
-use Rattle.fields.specs.declared.numbers.Number.TheVariants.{Is}
 use Rattle.lines.specs.Figures.{NoMinus, StartIs}
+use Rattle.std.specs.Prelude.{Some}
 
 -- ---- where the digits start
 
@@ -27,18 +26,18 @@ module _ (line : List ℕ) (at : ℕ) where
 
   -- the digits from byte `from` on, the first of them above 0, have the value v
   module _ (from v end : ℕ) (l : from < length line) (low : 49 ≤ get_or line from 0) (high : get_or line from 0 ≤ 57) (r : Run (up_to 44 (drop from line)) from v end) where
-    whole : NaturalIs (up_to 44 (drop from line)) from (Plain v end)
-    whole = led_natural line from l low high (Plain v end) r
+    whole : NaturalIs (up_to 44 (drop from line)) from (Some (record { value = v; end = end }))
+    whole = led_natural line from l low high (Some (record { value = v; end = end })) r
 
-    pub start_plus : StartIs line at from → from ≡ at → (z : ℤ) → z ≡ pos v → NumberIs (up_to 44 (drop at line)) at (Is z end)
+    pub start_plus : StartIs line at from → from ≡ at → (z : ℤ) → z ≡ pos v → NumberIs (up_to 44 (drop at line)) at (Some (record { value = z; end = end }))
     start_plus (inl s) e z ez = absurd (omega (arith, s.1, e))
     start_plus (inr s) e z ez =
         subst (NumberIs (up_to 44 (drop at line)) at) (sym (plus_some v end z ez))
-        (number_plus _ _ (no_minus s.0) (Plain v end) (subst (λ k. NaturalIs (up_to 44 (drop k line)) k (Plain v end)) e whole))
+        (number_plus _ _ (no_minus s.0) (Some (record { value = v; end = end })) (subst (λ k. NaturalIs (up_to 44 (drop k line)) k (Some (record { value = v; end = end }))) e whole))
 
-    pub start_minus : StartIs line at from → (from ≡ at → ⊥) → (v ≡ 0 → ⊥) → (z : ℤ) → z ≡ neg_ℤ (pos v) → NumberIs (up_to 44 (drop at line)) at (Is z end)
+    pub start_minus : StartIs line at from → (from ≡ at → ⊥) → (v ≡ 0 → ⊥) → (z : ℤ) → z ≡ neg_ℤ (pos v) → NumberIs (up_to 44 (drop at line)) at (Some (record { value = z; end = end }))
     start_minus (inl s) e n z ez =
         subst (NumberIs (up_to 44 (drop at line)) at) (sym (minus_some v end z n ez))
-        (number_minus _ _ _ (up_more 44 line at s.0.0 (λ c. omega (arith, s.0.1, c)) (λ c. omega (arith, s.0.1, c)) ∙ ap (λ (b : ℕ). b ∷ up_to 44 (drop (at + 1) line)) s.0.1) (Plain v end)
-        (subst (λ k. NaturalIs (up_to 44 (drop k line)) k (Plain v end)) s.1 whole))
+        (number_minus _ _ _ (up_more 44 line at s.0.0 (λ c. omega (arith, s.0.1, c)) (λ c. omega (arith, s.0.1, c)) ∙ ap (λ (b : ℕ). b ∷ up_to 44 (drop (at + 1) line)) s.0.1) (Some (record { value = v; end = end }))
+        (subst (λ k. NaturalIs (up_to 44 (drop k line)) k (Some (record { value = v; end = end }))) s.1 whole))
     start_minus (inr s) e n z ez = absurd (e s.1)

@@ -1,51 +1,44 @@
--- A line's first field beside a word, byte by byte.
-use Prim.Native.Nat.{◌+◌, ◌<◌, ◌≤◌, ℕ}
-use borrow.Author.Tests.{eq-eqb, eqb-false, eqb-true, ne_eqb}
+-- A line's first field, by the place of the first comma.
+use Prim.Native.Nat.{◌+◌, suc, ℕ}
 use lib.Dec.{eqb}
-use lib.ListN.{drop, drop_of_length-le, get_or, length}
-use mathlib.Core.Bool.{Bool, ◌&&◌, false, true}
+use lib.ListN.{length, take}
+use lib.Pointwise.{pointwise}
+use mathlib.Core.Bool.{Bool, ◌&&◌, ◌||◌, cond, false, not, true}
 use mathlib.Core.List.{List, [], ◌∷◌}
-use mathlib.Core.Path.{◌∙◌, ◌≡◌, ap, ap₂, refl, sym}
+use mathlib.Core.Path.{◌∙◌, ◌≡◌, ap, refl}
 use native.Mathlib.Omega.{arith}
-use Rattle.fields.proofs.Positions.{drop_at_index, up_comma, up_end, up_more}
 use Rattle.fields.specs.Positions.{up_to}
 use Rattle.language.specs.Sheet.{same_bytes}
+use Rattle.std.proofs.Common.{Option}
+use Rattle.std.proofs.lemmas.Bool.Decides.{nat_tests}
+use Rattle.std.proofs.lemmas.List.Sums.{prefix_len-le-length}
+use Rattle.std.specs.List.{position, position_or_len}
+use Rattle.std.specs.Option.{unwrap_or}
 
-module _ (line word : List ℕ) (i : ℕ) where
-  -- from byte i on, the word and the field are the same
-  abbrev pub same : Bool
-  same = same_bytes (up_to 44 (drop i line)) (drop i word)
+abbrev comma : ℕ → Bool
+comma b = eqb b 44
 
-  module _ (h : i < length word) where
-    next : drop i word ≡ get_or word i 0 ∷ drop (i + 1) word
-    next = drop_at_index word i h
+up_to_comma : (line : List ℕ) → take (position_or_len comma line) line ≡ up_to 44 line
+unfolding up_to
+up_to_comma [] = refl
+up_to_comma (b ∷ bs) = go (eqb b 44) (up_to_comma bs)
+  where
+    go : (t : Bool) → take (position_or_len comma bs) bs ≡ up_to 44 bs → take (cond (not t) (1 + position_or_len comma bs) 0) (b ∷ bs) ≡ cond (t || t) [] (b ∷ up_to 44 bs)
+    go true h = refl
+    go false h = let e : 1 + position_or_len comma bs ≡ suc (position_or_len comma bs) = omega arith in rw e (ap (λ l. b ∷ l) h)
 
-    pub field_ends : up_to 44 (drop i line) ≡ [] → false ≡ same
-    field_ends e = sym (ap₂ same_bytes e next)
+same_pointwise : (a b : List ℕ) → pointwise eqb a b ≡ same_bytes a b
+same_pointwise [] [] = refl
+same_pointwise [] (y ∷ ys) = refl
+same_pointwise (x ∷ xs) [] = refl
+same_pointwise (x ∷ xs) (y ∷ ys) = ap (λ t. eqb x y && t) (same_pointwise xs ys)
 
-    module _ (l : i < length line) (n : get_or line i 0 ≡ 44 → ⊥) where
-      byte_by_byte : same ≡ (eqb (get_or line i 0) (get_or word i 0) && same_bytes (up_to 44 (drop (i + 1) line)) (drop (i + 1) word))
-      byte_by_byte = ap₂ same_bytes (up_more 44 line i l n n) next
+unwrapped : (line : List ℕ) → unwrap_or (position comma line) (length line) ≡ position_or_len comma line
+unwrapped line = grind (arith, nat_tests, prefix_len-le-length (λ b. not (comma b)) line)
 
-      pub other_byte : (get_or line i 0 ≡ get_or word i 0 → ⊥) → false ≡ same
-      other_byte d = sym (byte_by_byte ∙ rw (ne_eqb (get_or line i 0) (get_or word i 0) d) refl)
+module _ (line word : List ℕ) {p : Option ℕ} {end : ℕ} (d : p ≡ position comma line) (e : end ≡ unwrap_or p (length line)) where
+  ends : end ≡ position_or_len comma line
+  ends = e ∙ ap (λ q. unwrap_or q (length line)) d ∙ unwrapped line
 
-      pub same_byte : get_or line i 0 ≡ get_or word i 0 → same_bytes (up_to 44 (drop (i + 1) line)) (drop (i + 1) word) ≡ same
-      same_byte e = sym (byte_by_byte ∙ rw (eq-eqb (get_or line i 0) (get_or word i 0) e) refl)
-
-  module _ (h : length word ≤ i) where
-    over : drop i word ≡ []
-    over = rw drop_of_length-le
-
-    empty_field : up_to 44 (drop i line) ≡ [] → true ≡ same
-    empty_field e = sym (ap₂ same_bytes e over)
-
-    pub line_over : length line ≤ i → true ≡ same
-    line_over l = empty_field (up_end 44 line i l)
-
-    pub comma_next : i < length line → eqb (get_or line i 0) 44 ≡ same
-    comma_next l = go (eqb (get_or line i 0) 44) refl
-      where
-        go : (b : Bool) → eqb (get_or line i 0) 44 ≡ b → b ≡ same
-        go true e = empty_field (up_comma 44 line i l (eqb-true (get_or line i 0) 44 e))
-        go false e = sym (ap₂ same_bytes (up_more 44 line i l (eqb-false (get_or line i 0) 44 e) (eqb-false (get_or line i 0) 44 e)) over)
+  pub word_is : {b : Bool} → b ≡ pointwise eqb (take end line) word → b ≡ same_bytes (up_to 44 line) word
+  word_is f = f ∙ same_pointwise (take end line) word ∙ ap (λ l. same_bytes l word) (ap (λ k. take k line) ends ∙ up_to_comma line)

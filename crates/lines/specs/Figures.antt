@@ -1,14 +1,13 @@
 -- What an answer of the code about a number of few digits means, for the bytes `f` from byte `at` on.
-use Rattle.std.specs.Prelude.{◌+◌, ◌<◌, ◌≤◌, ℕ, get_or, length, List, ◌⊎◌, ◌≡◌}
+use Rattle.std.specs.Prelude.{◌+◌, ◌<◌, ◌≤◌, ℕ, get_or, length, List, ◌⊎◌, ◌≡◌, None, Option, Some}
 use Rattle.fields.specs.Numbers.{Run}
 use Rattle.language.specs.Text.Number.{byte}
-use Rattle.lines.specs.declared.figures.Short.{Short}
-use Rattle.lines.specs.declared.figures.Short.TheVariants.{Ended, Other}
+use Rattle.fields.specs.declared.numbers.Natural.{Natural}
 
 -- a row that did not end in the bytes looked at tells nothing
-abbrev pub ShortIs : List ℕ → ℕ → Short → Type 0
-ShortIs f at (Ended v end) = Run f at v end
-ShortIs f at Other = Unit {0}
+abbrev pub ShortIs : List ℕ → ℕ → Option Natural → Type 0
+ShortIs f at (Some it) = Run f at it.value it.end
+ShortIs f at None = Unit {0}
 
 -- a line has a minus at this byte
 abbrev pub Minus : List ℕ → ℕ → Type 0

@@ -1,16 +1,13 @@
 -- What an answer of the code about one line of a sheet means.
-use Rattle.std.specs.Prelude.{◌+◌, ◌-◌, ◌≤◌, ℕ, nat_abs, ℤ, drop, length, take, cond, List, [], ◌∷◌, ◌≡◌}
+use Rattle.std.specs.Prelude.{◌+◌, ◌-◌, ◌≤◌, ℕ, nat_abs, ℤ, drop, length, take, cond, List, [], ◌∷◌, ◌≡◌, None, Option, Some}
 use Rattle.language.specs.Answer.{Answer, ◌>>=◌, got, refused}
 use Rattle.language.specs.Limits.{max_amount}
 use Rattle.language.specs.Sheet.{numbers, same_bytes, two_of, worded}
 use Rattle.language.specs.Text.Fields.{join, split}
 use Rattle.lines.specs.Lines.{lines_in}
+use Rattle.lines.specs.declared.numbers.Two.{Two}
 use Rattle.lines.specs.declared.parts.Listed.{Listed}
-use Rattle.lines.specs.declared.parts.Listed.TheVariants as listed
-use Rattle.lines.specs.declared.parts.Pair.{Pair}
-use Rattle.lines.specs.declared.parts.Pair.TheVariants as pair
 use Rattle.lines.specs.declared.parts.Plan.{Plan}
-use Rattle.lines.specs.declared.parts.Plan.TheVariants as plan
 
 -- `worded` for a word given by its bytes
 abbrev pub worded_by : List ℕ → List (List ℕ) → Answer (List (List ℕ))
@@ -41,9 +38,9 @@ pub record PlanAt (input : List ℕ) (from to next : ℕ) : Type 0 where
   pub order : from ≤ to
   pub inside : to ≤ length input
 
-abbrev pub PlanIs : List ℕ → Plan → Type 0
-PlanIs input (plan.Is from to next) = PlanAt input from to next
-PlanIs input plan.Fault = Missing (lines_in input) (λ line. worded "plan" (split line))
+abbrev pub PlanIs : List ℕ → Option Plan → Type 0
+PlanIs input (Some it) = PlanAt input it.from it.to it.next
+PlanIs input None = Missing (lines_in input) (λ line. worded "plan" (split line))
 
 pub record ListAt (input : List ℕ) (at : ℕ) (word : List ℕ) (before after : List ℤ) (count next : ℕ) : Type 0 where
   pub line : List ℕ
@@ -54,9 +51,9 @@ pub record ListAt (input : List ℕ) (at : ℕ) (word : List ℕ) (before after 
   pub holds : count ≤ length before → take count after ≡ read
   pub bounded : count ≤ length line + 1
 
-abbrev pub ListedAre : List ℕ → ℕ → List ℕ → List ℤ → List ℤ → Listed → Type 0
-ListedAre input at word before after (listed.Are count next) = ListAt input at word before after count next
-ListedAre input at word before after listed.Fault = Missing (lines_in (drop at input)) (numbers_behind word)
+abbrev pub ListedAre : List ℕ → ℕ → List ℕ → List ℤ → List ℤ → Option Listed → Type 0
+ListedAre input at word before after (Some it) = ListAt input at word before after it.count it.next
+ListedAre input at word before after None = Missing (lines_in (drop at input)) (numbers_behind word)
 
 pub record PairAt (input : List ℕ) (at : ℕ) (word : List ℕ) (first second : ℤ) (next : ℕ) : Type 0 where
   pub line : List ℕ
@@ -65,6 +62,6 @@ pub record PairAt (input : List ℕ) (at : ℕ) (word : List ℕ) (first second 
   pub first_small : nat_abs first ≤ max_amount
   pub second_small : nat_abs second ≤ max_amount
 
-abbrev pub PairIs : List ℕ → ℕ → List ℕ → Pair → Type 0
-PairIs input at word (pair.Is a b next) = PairAt input at word a b next
-PairIs input at word pair.Fault = Missing (lines_in (drop at input)) (λ line. numbers_behind word line >>= λ zs. two_of zs)
+abbrev pub PairIs : List ℕ → ℕ → List ℕ → Option Two → Type 0
+PairIs input at word (Some it) = PairAt input at word it.first it.second it.next
+PairIs input at word None = Missing (lines_in (drop at input)) (λ line. numbers_behind word line >>= λ zs. two_of zs)

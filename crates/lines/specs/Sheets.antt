@@ -1,12 +1,10 @@
 -- What an answer of the code about a whole sheet means.
-use Rattle.std.specs.Prelude.{◌-◌, ◌≤◌, ℕ, ℤ, drop, length, take, List, ◌≡◌}
+use Rattle.std.specs.Prelude.{◌-◌, ◌≤◌, ℕ, ℤ, drop, length, take, List, ◌≡◌, None, Option, Some}
 use Rattle.language.specs.Answer.{◌>>=◌, got, refused}
 use Rattle.language.specs.Sheet.{lines_of, sheet_of}
 use Rattle.language.specs.Text.Fields.{split_at}
 use Rattle.language.specs.Text.Number.{byte}
 use Rattle.lines.specs.declared.Sheet.{Sheet}
-use Rattle.lines.specs.declared.Sheeting.{Sheeting}
-use Rattle.lines.specs.declared.Sheeting.TheVariants as answer
 use Rattle.language.specs.Sheet as paper
 
 -- n numbers were read; the list holds them where it has room for all
@@ -33,6 +31,6 @@ pub record SheetRead (input : List ℕ) (days factors bounds values : List ℤ) 
   pub is : (lines_of (split_at (byte "\n") input) >>= λ ls. sheet_of ls) ≡ got sheet
   pub held : Holds input days factors bounds values code sheet
 
-abbrev pub SheetIs : List ℕ → List ℤ → List ℤ → List ℤ → List ℤ → Sheeting → Type 0
-SheetIs input days factors bounds values (answer.Read code) = SheetRead input days factors bounds values code
-SheetIs input days factors bounds values answer.Fault = (lines_of (split_at (byte "\n") input) >>= λ ls. sheet_of ls) ≡ refused 2
+abbrev pub SheetIs : List ℕ → List ℤ → List ℤ → List ℤ → List ℤ → Option Sheet → Type 0
+SheetIs input days factors bounds values (Some code) = SheetRead input days factors bounds values code
+SheetIs input days factors bounds values None = (lines_of (split_at (byte "\n") input) >>= λ ls. sheet_of ls) ≡ refused 2

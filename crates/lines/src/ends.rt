@@ -18,15 +18,14 @@ fn feed_in_32(input: &[u8], at: usize) -> bool
     ensures { result ≡ false → NoFeed input.now at 32 }
 {
     let mut found = false;
-    let mut k = 0;
-    while k < 32 {
+    for k in 0..32 {
         found = found | (input[at + k] == b'\n');
-        k += 1;
     }
     found
 }
 
 // A place from which on the line goes on as from a byte: 32 bytes at a time are passed.
+// A `while`: `chunks_exact` gives the parts, and the place, which is asked for, would be counted beside them.
 fn passed(input: &[u8], at: usize) -> usize
     requires { at ≤ length input.now }
     ensures { LineFrom input.now at result }
@@ -46,12 +45,10 @@ pub fn line_end(input: &[u8], at: usize) -> usize
     requires { at ≤ length input.now }
     ensures { result ≡ at + length (line_of (drop at input.now)) }
 {
-    let mut i = passed(input, at);
-    while i < input.len() {
+    for i in passed(input, at)..input.len() {
         if input[i] == b'\n' {
             return i;
         }
-        i += 1;
     }
-    i
+    input.len()
 }

@@ -5,23 +5,15 @@ ghost use Rattle.fields.specs.Positions.{up_to};
 ghost use Rattle.lines.specs.Figures.{ShortIs, StartIs};
 
 use fields::numbers;
-use fields::numbers::Number;
-
-// A row of at most seven digits, or another.
-#[derive(Clone, Copy)]
-pub enum Short {
-    Ended { value: u64, end: usize },
-    Other,
-}
+use fields::numbers::{Natural, Number};
 
 // A row of digits that a comma ends in the eight bytes from `at` on.
-fn short_digits(line: &[u8], at: usize) -> Short
+fn short_digits(line: &[u8], at: usize) -> Option<Natural>
     requires { at + 8 ≤ length line.now }
     ensures { ShortIs (up_to 44 (drop at line.now)) at result }
 {
     let mut v: u64 = 0;
-    let mut k: usize = 0;
-    while k < 8 {
+    for k in 0..8 {
         let b = line[at + k];
         match b {
             b'0'..=b'9' => {
@@ -29,17 +21,16 @@ fn short_digits(line: &[u8], at: usize) -> Short
             }
             _ => {
                 if b == b',' {
-                    return Short::Ended {
+                    return Some(Natural {
                         value: v,
                         end: at + k,
-                    };
+                    });
                 }
-                return Short::Other;
+                return None;
             }
         }
-        k += 1;
     }
-    Short::Other
+    None
 }
 
 // Where the digits of a number start: behind its minus, if it has one.
@@ -71,28 +62,28 @@ fn is_led(line: &[u8], at: usize) -> bool
 }
 
 // The number of the field at a byte.
-pub fn figure(line: &[u8], at: usize) -> Number
+pub fn figure(line: &[u8], at: usize) -> Option<Number>
     requires { at ≤ length line.now }
     ensures { NumberIs (up_to 44 (drop at line.now)) at result }
 {
     let from = digits_start(line, at);
     if is_led(line, from) {
         match short_digits(line, from) {
-            Short::Ended { value, end } => {
+            Some(n) => {
                 if from == at {
-                    return Number::Is {
-                        value: value as i64,
-                        end,
-                    };
+                    return Some(Number {
+                        value: n.value as i64,
+                        end: n.end,
+                    });
                 }
-                if 0 < value {
-                    return Number::Is {
-                        value: 0 - value as i64,
-                        end,
-                    };
+                if 0 < n.value {
+                    return Some(Number {
+                        value: 0 - n.value as i64,
+                        end: n.end,
+                    });
                 }
             }
-            Short::Other => {}
+            None => {}
         }
     }
     numbers::read_number(line, at, b',')

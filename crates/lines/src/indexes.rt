@@ -2,14 +2,13 @@
 ghost use Rattle.std.specs.Prelude.{◌≡◌, ◌+◌, ◌≤◌, length};
 ghost use Rattle.lines.specs.Indexes.{IndexIs, LabelsAre};
 
-use crate::numbers::{Numbers, Two};
 use crate::{ends, numbers, words};
 
 // A label's bound, and how many values it has.
 #[derive(Clone, Copy)]
-pub enum Index {
-    Is { bound: i64, count: usize },
-    Fault,
+pub struct Index {
+    pub bound: i64,
+    pub count: usize,
 }
 
 // How many values a label must have.
@@ -23,7 +22,7 @@ pub fn read_index(
     months: Months,
     values: &mut [i64],
     from: usize,
-) -> Index
+) -> Option<Index>
     requires { (length line.now ≤ 60_000) × (label ≤ 60_001) × (from ≤ 60_001) }
     ensures { IndexIs line.now label months.0 values.old values.new from result }
 {
@@ -31,53 +30,50 @@ pub fn read_index(
     if fits {
         let two = numbers::two_numbers(line, 6);
         match two {
-            Two::Are {
-                first,
-                second,
-                next,
-            } => {
-                if first == label as i64 {
-                    let read = numbers::read_numbers(line, next, values, from);
+            Some(two) => {
+                if two.first == label as i64 {
+                    let read = numbers::read_numbers(line, two.next, values, from);
                     match read {
-                        Numbers::Count(n) => {
+                        Some(n) => {
                             if 0 < n {
                                 if months.0 == n as i64 {
-                                    return Index::Is {
-                                        bound: second,
+                                    return Some(Index {
+                                        bound: two.second,
                                         count: n,
-                                    };
+                                    });
                                 }
                             }
-                            Index::Fault
+                            None
                         }
-                        Numbers::Fault => Index::Fault,
+                        None => None,
                     }
                 } else {
-                    Index::Fault
+                    None
                 }
             }
-            Two::Fault => Index::Fault,
+            None => None,
         }
     } else {
-        Index::Fault
+        None
     }
 }
 
 // How many labels there are, and how many values in all.
 #[derive(Clone, Copy)]
-pub enum Labels {
-    Are { labels: usize, values: usize },
-    Fault,
+pub struct Labels {
+    pub labels: usize,
+    pub values: usize,
 }
 
 // All lines from a byte on, labels from 0 upward; bounds and values are written as far as there is room.
+// A `while`: the place goes on by the length of a line, which no range gives.
 pub fn read_indexes(
     input: &[u8],
     at: usize,
     months: Months,
     bounds: &mut [i64],
     values: &mut [i64],
-) -> Labels
+) -> Option<Labels>
     requires { (at ≤ length input.now + 1) × (length input.now ≤ 60_000) }
     ensures { LabelsAre input.now at months.0 bounds.new values.new result }
 {
@@ -88,21 +84,21 @@ pub fn read_indexes(
         let end = ends::line_end(input, place);
         let index = read_index(&input[place..end], labels, months, values, stored);
         match index {
-            Index::Is { bound, count } => {
+            Some(index) => {
                 if labels < bounds.len() {
-                    bounds[labels] = bound;
+                    bounds[labels] = index.bound;
                 }
                 labels += 1;
-                stored += count;
+                stored += index.count;
                 place = end + 1;
             }
-            Index::Fault => {
-                return Labels::Fault;
+            None => {
+                return None;
             }
         }
     }
-    Labels::Are {
+    Some(Labels {
         labels,
         values: stored,
-    }
+    })
 }

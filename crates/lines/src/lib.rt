@@ -6,8 +6,7 @@ ghost use Rattle.integers.specs.Bounded.{Small};
 ghost use Rattle.integers.specs.Equal.{eq_z};
 ghost use Rattle.lines.specs.Sheets.{SheetIs};
 
-use indexes::{Labels, Months};
-use parts::{Listed, Pair, Plan};
+use indexes::Months;
 
 pub mod ends;
 pub mod figures;
@@ -29,13 +28,6 @@ pub struct Sheet {
     pub q: i64,
     pub labels: usize,
     pub values: usize,
-}
-
-// The sheet, or a fault of the sheet itself.
-#[derive(Clone, Copy)]
-pub enum Sheeting {
-    Read(Sheet),
-    Fault,
 }
 
 // How many factors a table must have.
@@ -69,80 +61,34 @@ pub fn read_sheet(
     factors: &mut [i64],
     bounds: &mut [i64],
     values: &mut [i64],
-) -> Sheeting
+) -> Option<Sheet>
     requires { length input.now ≤ 60_000 }
     ensures { SheetIs input.now days.new factors.new bounds.new values.new result }
 {
     let whole = ends::ended(input);
     if !whole {
-        return Sheeting::Fault;
+        return None;
     }
-    let plan = parts::plan_line(input);
-    match plan {
-        Plan::Is { from, to, next } => {
-            let listed = parts::number_line(input, next, b"days", days);
-            match listed {
-                Listed::Are { count, next } => {
-                    let settings = count;
-                    let span = parts::pair_line(input, next, b"span");
-                    match span {
-                        Pair::Is {
-                            first,
-                            second,
-                            next,
-                        } => {
-                            let h = first;
-                            let f = second;
-                            let discounts = parts::number_line(input, next, b"factors", factors);
-                            match discounts {
-                                Listed::Are { count, next } => {
-                                    if fits(factor_months(f), count) {
-                                        let pair = parts::pair_line(input, next, b"pair");
-                                        match pair {
-                                            Pair::Is {
-                                                first,
-                                                second,
-                                                next,
-                                            } => {
-                                                let labels = indexes::read_indexes(
-                                                    input,
-                                                    next,
-                                                    value_months(h, f),
-                                                    bounds,
-                                                    values,
-                                                );
-                                                match labels {
-                                                    Labels::Are { labels, values } =>
-                                                        Sheeting::Read(Sheet {
-                                                            from,
-                                                            to,
-                                                            days: settings,
-                                                            h,
-                                                            f,
-                                                            factors: count,
-                                                            p: first,
-                                                            q: second,
-                                                            labels,
-                                                            values,
-                                                        }),
-                                                    Labels::Fault => Sheeting::Fault,
-                                                }
-                                            }
-                                            Pair::Fault => Sheeting::Fault,
-                                        }
-                                    } else {
-                                        Sheeting::Fault
-                                    }
-                                }
-                                Listed::Fault => Sheeting::Fault,
-                            }
-                        }
-                        Pair::Fault => Sheeting::Fault,
-                    }
-                }
-                Listed::Fault => Sheeting::Fault,
-            }
-        }
-        Plan::Fault => Sheeting::Fault,
+    let plan = parts::plan_line(input)?;
+    let settings = parts::number_line(input, plan.next, b"days", days)?;
+    let span = parts::pair_line(input, settings.next, b"span")?;
+    let discounts = parts::number_line(input, span.next, b"factors", factors)?;
+    if !fits(factor_months(span.second), discounts.count) {
+        return None;
     }
+    let pair = parts::pair_line(input, discounts.next, b"pair")?;
+    let months = value_months(span.first, span.second);
+    let labels = indexes::read_indexes(input, pair.next, months, bounds, values)?;
+    Some(Sheet {
+        from: plan.from,
+        to: plan.to,
+        days: settings.count,
+        h: span.first,
+        f: span.second,
+        factors: discounts.count,
+        p: pair.first,
+        q: pair.second,
+        labels: labels.labels,
+        values: labels.values,
+    })
 }

@@ -4,17 +4,10 @@ ghost use Rattle.lines.specs.Numbers.{NumbersAre, TwoAre};
 
 use crate::figures;
 use fields::numbers;
-use fields::numbers::Number;
-
-// How many numbers there are, or that one is malformed or too far from zero.
-#[derive(Clone, Copy)]
-pub enum Numbers {
-    Count(usize),
-    Fault,
-}
 
 // The numbers of the fields from a byte on, as many as there is room for written from place `from` on.
-pub fn read_numbers(line: &[u8], at: usize, into: &mut [i64], from: usize) -> Numbers
+// A `while`: the place goes on by the length of a field, which no range gives.
+pub fn read_numbers(line: &[u8], at: usize, into: &mut [i64], from: usize) -> Option<usize>
     requires { (at ≤ length line.now + 1) × (from ≤ 60_001) × (length line.now ≤ 60_000) }
     ensures { NumbersAre line.now at into.old into.new from result }
 {
@@ -23,59 +16,47 @@ pub fn read_numbers(line: &[u8], at: usize, into: &mut [i64], from: usize) -> Nu
     while place <= line.len() {
         let number = figures::figure(line, place);
         match number {
-            Number::Is { value, end } => {
+            Some(n) => {
                 let k = from + count;
                 if k < into.len() {
-                    into[k] = value;
+                    into[k] = n.value;
                 }
                 count += 1;
-                place = end + 1;
+                place = n.end + 1;
             }
-            Number::Bad => {
-                return Numbers::Fault;
+            None => {
+                return None;
             }
         }
     }
-    Numbers::Count(count)
+    Some(count)
 }
 
 // The first two numbers of a line, and the place behind them.
 #[derive(Clone, Copy)]
-pub enum Two {
-    Are {
-        first: i64,
-        second: i64,
-        next: usize,
-    },
-    Fault,
+pub struct Two {
+    pub first: i64,
+    pub second: i64,
+    pub next: usize,
 }
 
 // The numbers of the first two fields from a byte on.
-pub fn two_numbers(line: &[u8], at: usize) -> Two
+pub fn two_numbers(line: &[u8], at: usize) -> Option<Two>
     requires { (at ≤ length line.now + 1) × (length line.now ≤ 60_000) }
     ensures { TwoAre line.now at result }
 {
     if line.len() < at {
-        return Two::Fault;
+        return None;
     }
-    let one = numbers::read_number(line, at, b',');
-    match one {
-        Number::Is { value, end } => {
-            let first = value;
-            let second_at = end + 1;
-            if line.len() < second_at {
-                return Two::Fault;
-            }
-            let other = numbers::read_number(line, second_at, b',');
-            match other {
-                Number::Is { value, end } => Two::Are {
-                    first,
-                    second: value,
-                    next: end + 1,
-                },
-                Number::Bad => Two::Fault,
-            }
-        }
-        Number::Bad => Two::Fault,
+    let first = numbers::read_number(line, at, b',')?;
+    let second_at = first.end + 1;
+    if line.len() < second_at {
+        return None;
     }
+    let second = numbers::read_number(line, second_at, b',')?;
+    Some(Two {
+        first: first.value,
+        second: second.value,
+        next: second.end + 1,
+    })
 }

@@ -2,58 +2,59 @@
 ghost use Rattle.std.specs.Prelude.{◌≡◌, ◌+◌, ◌≤◌, length};
 ghost use Rattle.lines.specs.Parts.{ListedAre, PairIs, PlanIs};
 
-use crate::numbers::{Numbers, Two};
+use crate::numbers::Two;
 use crate::{ends, numbers, words};
 
 // Where the plan's text stands, and where the next line begins.
 #[derive(Clone, Copy)]
-pub enum Plan {
-    Is { from: usize, to: usize, next: usize },
-    Fault,
+pub struct Plan {
+    pub from: usize,
+    pub to: usize,
+    pub next: usize,
 }
 
-pub fn plan_line(input: &[u8]) -> Plan
+pub fn plan_line(input: &[u8]) -> Option<Plan>
     requires { length input.now ≤ 60_000 }
     ensures { PlanIs input.now result }
 {
     if input.len() == 0 {
-        return Plan::Fault;
+        return None;
     }
     let end = ends::line_end(input, 0);
     let fits = words::has_word(&input[0..end], b"plan");
     if fits {
         if 5 <= end {
-            Plan::Is {
+            Some(Plan {
                 from: 5,
                 to: end,
                 next: end + 1,
-            }
+            })
         } else {
-            Plan::Is {
+            Some(Plan {
                 from: end,
                 to: end,
                 next: end + 1,
-            }
+            })
         }
     } else {
-        Plan::Fault
+        None
     }
 }
 
 // How many numbers a line has, and where the next line begins.
 #[derive(Clone, Copy)]
-pub enum Listed {
-    Are { count: usize, next: usize },
-    Fault,
+pub struct Listed {
+    pub count: usize,
+    pub next: usize,
 }
 
 // The numbers behind the word of the line that begins at a byte, as many as there is room for written from the first place on.
-pub fn number_line(input: &[u8], at: usize, word: &[u8], into: &mut [i64]) -> Listed
+pub fn number_line(input: &[u8], at: usize, word: &[u8], into: &mut [i64]) -> Option<Listed>
     requires { (at ≤ length input.now + 1) × (length input.now ≤ 60_000) }
     ensures { ListedAre input.now at word.now into.old into.new result }
 {
     if input.len() <= at {
-        return Listed::Fault;
+        return None;
     }
     let end = ends::line_end(input, at);
     let line = &input[at..end];
@@ -61,35 +62,24 @@ pub fn number_line(input: &[u8], at: usize, word: &[u8], into: &mut [i64]) -> Li
     if fits {
         let read = numbers::read_numbers(line, word.len() + 1, into, 0);
         match read {
-            Numbers::Count(n) => Listed::Are {
+            Some(n) => Some(Listed {
                 count: n,
                 next: end + 1,
-            },
-            Numbers::Fault => Listed::Fault,
+            }),
+            None => None,
         }
     } else {
-        Listed::Fault
+        None
     }
 }
 
-// The two numbers of a line, and where the next line begins.
-#[derive(Clone, Copy)]
-pub enum Pair {
-    Is {
-        first: i64,
-        second: i64,
-        next: usize,
-    },
-    Fault,
-}
-
 // The two numbers behind the word of the line that begins at a byte.
-pub fn pair_line(input: &[u8], at: usize, word: &[u8]) -> Pair
+pub fn pair_line(input: &[u8], at: usize, word: &[u8]) -> Option<Two>
     requires { (at ≤ length input.now + 1) × (length input.now ≤ 60_000) }
     ensures { PairIs input.now at word.now result }
 {
     if input.len() <= at {
-        return Pair::Fault;
+        return None;
     }
     let end = ends::line_end(input, at);
     let line = &input[at..end];
@@ -97,24 +87,20 @@ pub fn pair_line(input: &[u8], at: usize, word: &[u8]) -> Pair
     if fits {
         let two = numbers::two_numbers(line, word.len() + 1);
         match two {
-            Two::Are {
-                first,
-                second,
-                next,
-            } => {
-                if next <= line.len() {
-                    Pair::Fault
+            Some(two) => {
+                if two.next <= line.len() {
+                    None
                 } else {
-                    Pair::Is {
-                        first,
-                        second,
+                    Some(Two {
+                        first: two.first,
+                        second: two.second,
                         next: end + 1,
-                    }
+                    })
                 }
             }
-            Two::Fault => Pair::Fault,
+            None => None,
         }
     } else {
-        Pair::Fault
+        None
     }
 }

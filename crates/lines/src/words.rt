@@ -1,30 +1,19 @@
 // A line's first word.
-ghost use Rattle.std.specs.Prelude.{◌≡◌};
+ghost use Rattle.std.specs.Prelude.{◌≡◌, ◌==◌, position};
 ghost use Rattle.fields.specs.Positions.{up_to};
 ghost use Rattle.language.specs.Sheet.{same_bytes};
+
+// Where the first comma of a line stands.
+fn first_comma(line: &[u8]) -> Option<usize>
+    ensures { result ≡ position (λ b. b == 44) line.now }
+{
+    line.iter().position(|b| *b == b',')
+}
 
 // Whether the first field of a line is this word.
 pub fn has_word(line: &[u8], word: &[u8]) -> bool
     ensures { result ≡ same_bytes (up_to 44 line.now) word.now }
 {
-    let mut i = 0;
-    while i < word.len() {
-        if i < line.len() {
-            let b = line[i];
-            if b == b',' {
-                return false;
-            }
-            if b != word[i] {
-                return false;
-            }
-        } else {
-            return false;
-        }
-        i += 1;
-    }
-    if i < line.len() {
-        line[i] == b','
-    } else {
-        true
-    }
+    let end = first_comma(line).unwrap_or(line.len());
+    &line[..end] == word
 }

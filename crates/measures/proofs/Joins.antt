@@ -1,5 +1,5 @@
 -- Two magnitudes joined, as the code does it, and as the definitions say it.
-use Prim.Native.Nat.{◌*◌, ◌+◌, ◌/◌, ◌<◌, ◌≤◌, max, ℕ}
+use Prim.Native.Nat.{◌*◌, ◌+◌, ◌/◌, ◌<◌, ◌≤◌, max, min, ℕ}
 use Rattle.language.proofs.Truth.{and_e}
 use Rattle.language.specs.Limits.{max_amount}
 use Rattle.measures.specs.Magnitudes.{beyond, joined, measured}
@@ -42,6 +42,13 @@ module _ (op : ℕ → ℕ → ℕ) (a b : ℕ) where
 module _ (a b : ℕ) where
   pub sum_within : a + b ≤ max_amount → a + b ≡ joined ◌+◌ a b
   sum_within h = within_joined ◌+◌ a b (omega (arith, h)) (omega (arith, h)) h
+
+  pub sum_joined : min (a + b) beyond ≡ joined ◌+◌ a b
+  sum_joined = by (leb (a + b) max_amount) refl
+    where
+      by : (t : Bool) → leb (a + b) max_amount ≡ t → min (a + b) beyond ≡ joined ◌+◌ a b
+      by true e = let h = leb-true (a + b) max_amount e in let z : min (a + b) beyond ≡ a + b = omega (arith, h) in z ∙ sum_within h
+      by false e = let h = leb-false (a + b) max_amount e in let z : min (a + b) beyond ≡ beyond = omega (arith, h) in z ∙ outcome_beyond ◌+◌ a b h
 
   pub product_zero : a ≤ max_amount → b ≡ 0 → 0 ≡ joined ◌*◌ a b
   product_zero h e = let z : a * b ≡ 0 = rw e (omega arith) in sym z ∙ within_joined ◌*◌ a b h (omega (arith, e)) (omega (arith, z))

@@ -5,7 +5,6 @@ use Rattle.nodes.proofs.TestLetters.{byte_of, is_test}
 use Rattle.nodes.specs.Letters.{letter_of_amount, letter_of_test}
 use Rattle.nodes.specs.declared.AmountLetter.TheVariants as amount
 use Rattle.nodes.specs.declared.AmountLetter.{AmountLetter}
-use Rattle.nodes.specs.declared.TestLetter.TheVariants as test
 use Rattle.nodes.specs.declared.TestLetter.{TestLetter}
 use lib.IntN.{pos, ℤ}
 use mathlib.Core.Bool.{Bool, cond, false, false≢true, true}

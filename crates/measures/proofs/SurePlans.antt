@@ -7,7 +7,7 @@ use Rattle.language.specs.Rules.Measures.{Latest, first_of, from, latest_of, lat
 use Rattle.language.specs.Rules.Table.{Table}
 use Rattle.language.specs.Rules.Tests.{amount_reads, not_later, plan_small, test_reads, test_is_small}
 use Rattle.language.specs.Text.Trees.{Amount, Plan, Test, both, later, nothing, scale, transfer, within}
-use Rattle.measures.proofs.Fields.{field_index, field_reads, field_whole}
+use Rattle.nodes.proofs.Fields.{field_index, field_reads, field_whole}
 use Rattle.measures.proofs.Firsts.{in_time_from, in_time_never}
 use Rattle.measures.proofs.Joins.{within_joined}
 use Rattle.measures.proofs.PlanMagnitudes.{plan_within}

@@ -11,20 +11,14 @@ pub const NEVER: u64 = 1_000_000;
 pub fn later_of(a: u64, b: u64) -> u64
     ensures { result ≡ max a b }
 {
-    if a < b {
-        return b;
-    }
-    a
+    a.max(b)
 }
 
 // The lesser of two months.
 pub fn sooner_of(a: u64, b: u64) -> u64
     ensures { result ≡ min a b }
 {
-    if a < b {
-        return a;
-    }
-    b
+    a.min(b)
 }
 
 // Never stays never.
@@ -32,7 +26,7 @@ pub fn after_delay(d: u64, a: u64) -> u64
     requires { (d ≤ never_month) × (a ≤ never_month) }
     ensures { result ≡ min (d + a) never_month }
 {
-    sooner_of(d + a, NEVER)
+    (d + a).min(NEVER)
 }
 
 // Whether a latest read is not after the first month.

@@ -2,6 +2,7 @@
 #![tactic(auto)]
 
 pub mod first;
+pub mod lent;
 pub mod limit;
 pub mod magnitude;
 pub mod node;

@@ -19,10 +19,7 @@ pub fn is_within(a: u64) -> bool
 pub fn capped(a: u64) -> u64
     ensures { result ≡ min a beyond }
 {
-    if a <= LIMIT {
-        return a;
-    }
-    BEYOND
+    a.min(BEYOND)
 }
 
 // Two magnitudes added.
@@ -30,11 +27,7 @@ pub fn sum_of(a: u64, b: u64) -> u64
     requires { (a ≤ beyond) × (b ≤ beyond) }
     ensures { result ≡ joined ◌+◌ a b }
 {
-    let s = a + b;
-    if s <= LIMIT {
-        return s;
-    }
-    BEYOND
+    (a + b).min(BEYOND)
 }
 
 // Decided by a division: the product of two magnitudes may not fit.
@@ -56,24 +49,13 @@ pub fn product_of(a: u64, b: u64) -> u64
     a * b
 }
 
-// The greater of two magnitudes.
-fn greater_of(a: u64, b: u64) -> u64
-    requires { (a ≤ beyond) × (b ≤ beyond) }
-    ensures { result ≡ joined max a b }
-{
-    if a < b {
-        return b;
-    }
-    a
-}
-
-// The greater of two where a test is small, else beyond.
+// The greater of two magnitudes where a test is small, else beyond.
 pub fn greater_where(small: bool, a: u64, b: u64) -> u64
     requires { (a ≤ beyond) × (b ≤ beyond) }
     ensures { result ≡ cond small (joined max a b) beyond }
 {
     if small {
-        return greater_of(a, b);
+        return a.max(b);
     }
     BEYOND
 }

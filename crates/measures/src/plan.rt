@@ -7,12 +7,13 @@ ghost use Rattle.language.specs.Rules.Tests.{amount_reads, test_reads, test_is_s
 ghost use Rattle.language.specs.Text.Trees.{Amount, Plan, Test, both, later, nothing, scale, transfer, within};
 ghost use Rattle.nodes.specs.Found.{amount_at, offset_of, plan_at, test_at};
 ghost use Rattle.nodes.specs.Table.{nat_of};
-ghost use Rattle.measures.specs.Magnitudes.{InBounds, bound_in, measured_amount};
+ghost use Rattle.measures.specs.Magnitudes.{bound_in, measured_amount};
 ghost use Rattle.measures.specs.PlanMeasures.{Addable, MeasuresOf};
 ghost use Rattle.measures.specs.Ready.{AmountReady, PlanReady, TestReady};
 ghost use Rattle.measures.specs.Spans.{Near, Seen};
 ghost use Rattle.measures.specs.Timing.{latest_month, never_month};
 
+use crate::lent::Lent;
 use crate::rows::Rows;
 use crate::{first, limit, magnitude, node, reads, rows};
 use integers::Month;
@@ -31,27 +32,27 @@ pub struct Measures {
 // ---- an amount and a test, from the magnitudes of their rows summed
 
 // The magnitude of an amount: the sum, or by a walk where that is beyond the limit.
-pub fn amount_of(nodes: &&[i64], at: usize, rows: u64, bounds: &[i64]) -> u64
-    requires { AmountReady 512 nodes.now.now at × InBounds bounds.now
-        × (rows ≤ max_amount → rows ≡ measured_amount (bound_in bounds.now) (amount_at offset_of 512 nodes.now.now at)) }
-    ensures { result ≡ measured_amount (bound_in bounds.now) (amount_at offset_of 512 nodes.now.now at) }
+pub fn amount_of(lent: &Lent, at: usize, rows: u64) -> u64
+    requires { AmountReady 512 lent.now.nodes.now at
+        × (rows ≤ max_amount → rows ≡ measured_amount (bound_in lent.now.bounds.now) (amount_at offset_of 512 lent.now.nodes.now at)) }
+    ensures { result ≡ measured_amount (bound_in lent.now.bounds.now) (amount_at offset_of 512 lent.now.nodes.now at) }
 {
     if limit::is_within(rows) {
         return rows;
     }
-    magnitude::amount_magnitude(nodes, at, 512, bounds)
+    magnitude::amount_magnitude(lent, at, 512)
 }
 
 // Whether a test is small: so it is where the sum is within the limit.
-pub fn test_of(nodes: &&[i64], at: usize, rows: u64, bounds: &[i64]) -> bool
-    requires { TestReady 512 nodes.now.now at × InBounds bounds.now
-        × (rows ≤ max_amount → test_is_small (bound_in bounds.now) (test_at offset_of 512 nodes.now.now at) ≡ true) }
-    ensures { result ≡ test_is_small (bound_in bounds.now) (test_at offset_of 512 nodes.now.now at) }
+pub fn test_of(lent: &Lent, at: usize, rows: u64) -> bool
+    requires { TestReady 512 lent.now.nodes.now at
+        × (rows ≤ max_amount → test_is_small (bound_in lent.now.bounds.now) (test_at offset_of 512 lent.now.nodes.now at) ≡ true) }
+    ensures { result ≡ test_is_small (bound_in lent.now.bounds.now) (test_at offset_of 512 lent.now.nodes.now at) }
 {
     if limit::is_within(rows) {
         return true;
     }
-    magnitude::test_small(nodes, at, 512, bounds)
+    magnitude::test_small(lent, at, 512)
 }
 
 // ---- each letter, from its parts
@@ -130,8 +131,8 @@ fn of_both(x: Measures, y: Measures) -> Measures
     ensures { (t : Table) (a z : ℕ) (bound : ℕ → ℕ) (p q : Plan ℕ)
         → MeasuresOf t a z bound p x → MeasuresOf t a z bound q y → MeasuresOf t a z bound (both p q) result }
 {
-    let length = first::later_of(x.length, y.length);
-    let first = first::sooner_of(x.first, y.first);
+    let length = x.length.max(y.length);
+    let first = x.first.min(y.first);
     let magnitude = limit::sum_of(x.magnitude, y.magnitude);
     let known = x.known & y.known;
     let reads = x.reads & y.reads;
@@ -151,9 +152,9 @@ fn of_within(d: u64, rows: Rows, small: bool, x: Measures, y: Measures) -> Measu
         → rows.latest ≡ latest_month (latest_of_test c) → rows.reads ≡ test_reads t a (z + d) c → small ≡ test_is_small bound c
         → MeasuresOf t a (z + d) bound p x → MeasuresOf t (a + d) (z + d) bound q y → MeasuresOf t a z bound (within d c p q) result }
 {
-    let after = first::later_of(x.length, y.length);
+    let after = x.length.max(y.length);
     let length = d + after;
-    let paid = first::sooner_of(x.first, y.first);
+    let paid = x.first.min(y.first);
     let magnitude = limit::greater_where(small, x.magnitude, y.magnitude);
     let timely = first::tried_in_time(rows.latest);
     let known = timely & (x.known & y.known);
@@ -170,58 +171,51 @@ fn of_within(d: u64, rows: Rows, small: bool, x: Measures, y: Measures) -> Measu
 // ---- the walk
 
 // A plan, and the offsets that can be read from every month in which its node may stand.
-pub fn measure_plan(
-    nodes: &&[i64],
-    at: usize,
-    left: usize,
-    low: Month,
-    high: Month,
-    bounds: &[i64],
-) -> Measures
-    requires { PlanReady left nodes.now.now at × Near left low.0 high.0 × InBounds bounds.now }
-    ensures { (t : Table) (a z : ℕ) → Seen low.0 high.0 (length bounds.now) t a z
-        → MeasuresOf t a z (bound_in bounds.now) (plan_at nat_of left nodes.now.now at) result }
+pub fn measure_plan(lent: &Lent, at: usize, left: usize, low: Month, high: Month) -> Measures
+    requires { PlanReady left lent.now.nodes.now at × Near left low.0 high.0 }
+    ensures { (t : Table) (a z : ℕ) → Seen low.0 high.0 (length lent.now.bounds.now) t a z
+        → MeasuresOf t a z (bound_in lent.now.bounds.now) (plan_at nat_of left lent.now.nodes.now at) result }
 {
-    let letter = node::plan_kind(nodes, at);
+    let letter = nodes::plan_kind(lent.nodes, at);
     match letter {
         PlanLetter::Nothing => of_nothing(),
         PlanLetter::Transfer => of_transfer(),
         PlanLetter::Scale => {
-            let next = nodes::link(nodes, at, 3);
-            let w = reads::window_of(low, high, bounds.len());
-            let rows = rows::read_rows(nodes, at + 1, next, w, bounds);
-            let m = amount_of(nodes, at + 1, rows.magnitude, bounds);
-            if node::is_transfer(nodes, next) {
+            let next = nodes::link(lent.nodes, at, 3);
+            let w = reads::window_of(low, high, lent.bounds.len());
+            let rows = rows::read_rows(lent, at + 1, next, w);
+            let m = amount_of(lent, at + 1, rows.magnitude);
+            if node::is_transfer(lent.nodes, next) {
                 return of_scale(rows, m, of_transfer());
             }
-            let x = measure_plan(nodes, next, left - 1, low, high, bounds);
+            let x = measure_plan(lent, next, left - 1, low, high);
             of_scale(rows, m, x)
         }
         PlanLetter::Later => {
-            let d = node::delay(nodes, at);
+            let d = nodes::delay(lent.nodes, at);
             let low_then = reads::nearer(low, d);
             let high_then = reads::nearer(high, d);
-            let x = measure_plan(nodes, at + 1, left - 1, low_then, high_then, bounds);
-            of_later(node::months(nodes, at), x)
+            let x = measure_plan(lent, at + 1, left - 1, low_then, high_then);
+            of_later(node::months(lent.nodes, at), x)
         }
         PlanLetter::Both => {
-            let next = nodes::link(nodes, at, 3);
-            let x = measure_plan(nodes, at + 1, left - 1, low, high, bounds);
-            let y = measure_plan(nodes, next, left - 1, low, high, bounds);
+            let next = nodes::link(lent.nodes, at, 3);
+            let x = measure_plan(lent, at + 1, left - 1, low, high);
+            let y = measure_plan(lent, next, left - 1, low, high);
             of_both(x, y)
         }
         PlanLetter::Within => {
-            let d = node::delay(nodes, at);
+            let d = nodes::delay(lent.nodes, at);
             let low_then = reads::nearer(low, d);
             let high_then = reads::nearer(high, d);
-            let next = nodes::link(nodes, at, 3);
-            let other = nodes::link(nodes, at, 4);
-            let w = reads::window_of(low, high_then, bounds.len());
-            let rows = rows::read_rows(nodes, at + 1, next, w, bounds);
-            let t = test_of(nodes, at + 1, rows.magnitude, bounds);
-            let x = measure_plan(nodes, next, left - 1, low, high_then, bounds);
-            let y = measure_plan(nodes, other, left - 1, low_then, high_then, bounds);
-            of_within(node::months(nodes, at), rows, t, x, y)
+            let next = nodes::link(lent.nodes, at, 3);
+            let other = nodes::link(lent.nodes, at, 4);
+            let w = reads::window_of(low, high_then, lent.bounds.len());
+            let rows = rows::read_rows(lent, at + 1, next, w);
+            let t = test_of(lent, at + 1, rows.magnitude);
+            let x = measure_plan(lent, next, left - 1, low, high_then);
+            let y = measure_plan(lent, other, left - 1, low_then, high_then);
+            of_within(node::months(lent.nodes, at), rows, t, x, y)
         }
         PlanLetter::NoPlan => of_nothing(),
     }

@@ -5,7 +5,6 @@ ghost use Rattle.nodes.specs.Table.{RowIn};
 ghost use Rattle.measures.specs.Rows.{row_reads};
 ghost use Rattle.measures.specs.Spans.{window_for};
 
-use crate::node;
 use integers::Month;
 
 // The offsets that can be read, and how many labels.
@@ -35,13 +34,13 @@ pub fn window_of(low: Month, high: Month, labels: usize) -> Window
     }
 }
 
-pub fn row_reads(nodes: &&[i64], at: usize, w: Window) -> bool
-    requires { RowIn nodes.now.now at }
-    ensures { result ≡ row_reads w nodes.now.now at }
+pub fn row_reads(nodes: &[i64], at: usize, w: Window) -> bool
+    requires { RowIn nodes.now at }
+    ensures { result ≡ row_reads w nodes.now at }
 {
-    if node::is_index(nodes, at) {
-        let l = node::label(nodes, at);
-        let i = node::offset(nodes, at);
+    if nodes::is_index(nodes, at) {
+        let l = nodes::label(nodes, at);
+        let i = nodes::offset(nodes, at);
         if l < w.labels {
             return (w.low <= i.0) & (i.0 <= w.high);
         }

@@ -2,6 +2,7 @@
 pub mod AmountsFound
 pub mod BlocksLaid
 pub mod Counts
+pub mod Fields
 pub mod Laid
 pub mod Passes
 pub mod PayoffsFound

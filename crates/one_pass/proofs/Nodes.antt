@@ -18,11 +18,10 @@ use Rattle.fields.proofs.FieldLaws.{taken_at}
 use Rattle.fields.proofs.NumberLaws.{going_more, going_over, going_start, led_head, led_natural, number_plus}
 use Rattle.fields.proofs.Positions.{up_more}
 use Rattle.fields.specs.Classes.{class_of}
+use Rattle.fields.specs.declared.field.Class.TheVariants.{FromNode, Label, Party}
 use Rattle.fields.specs.Fields.{Four, ReadUpTo, Taken, TriedIs, first_as}
 use Rattle.fields.specs.Numbers.{Run, Signed, plus}
 use Rattle.fields.specs.Positions.{fields_from, up_to}
-use Rattle.fields.specs.declared.field.Taking.TheVariants.{Value}
-use Rattle.fields.specs.declared.numbers.Natural.TheVariants.{Plain}
 use Rattle.integers.proofs.Locals.{rd}
 use Rattle.language.proofs.Rules.Tables.{setting_small}
 use Rattle.language.proofs.Truth.{and_e}
@@ -45,6 +44,7 @@ use Rattle.one_pass.specs.Seen.{AmountSeen, DelayOf, DelaySeen, DigitsSeen, Divi
 use Rattle.one_pass.proofs.Amounts.{index_seen, number_seen}
 use Rattle.one_pass.proofs.Fields.{delayed, divisor_numeric, figure_numeric, label_numeric, number_alone, number_more, offset_numeric, party_numeric}
 use Rattle.one_pass.proofs.Plans.{nothing_seen, transfer_seen}
+use Rattle.std.specs.Prelude.{Some}
 
 -- the number that tells nothing
 pub unsure : {A : Type 0} → Kept 9437184000001048576 → A
@@ -62,8 +62,8 @@ module _ {text : List ℕ} {at : ℕ} (h : at < length text) (low : 49 ≤ get_o
   led_signed : Signed (up_to 44 (drop at text)) at (pos (magnitude_in r)) (behind r - 1)
   unfolding plus
   led_signed =
-      number_plus (up_to 44 (drop at text)) at (λ e. omega (arith, led_head text at h low high, e, low)) (Plain (magnitude_in r) (behind r - 1))
-      (led_natural text at h low high (Plain (magnitude_in r) (behind r - 1)) d.run)
+      number_plus (up_to 44 (drop at text)) at (λ e. omega (arith, led_head text at h low high, e, low)) (Some (record { value = magnitude_in r; end = behind r - 1 }))
+      (led_natural text at h low high (Some (record { value = magnitude_in r; end = behind r - 1 })) d.run)
 
   led_taken : (c : Class) → Held c (up_to 44 (drop at text)) (pos (magnitude_in r) ∷ []) → Taken c text at (pos (magnitude_in r) ∷ []) (behind r)
   led_taken c held = taken_at c text at (pos (magnitude_in r) ∷ []) (behind r) (omega (arith, h)) (omega (arith, led_signed.ends, d.some)) held
@@ -138,7 +138,7 @@ module _ {text : List ℕ} (short : Short text) {left at : ℕ} (level : 0 < lef
       (number_alone figure_numeric (taken_at figure text (at + 2) (z ∷ []) (behind r) (omega (arith, h.room)) (omega (arith, s.ends, p.place)) (figure_reads _ z s.small s.is)))
       k (p.magnitude ∙ e ∙ ap nat_abs (to_z-of_z (small_fits z s.small))) p.months
 
-  pub index_read : {l i a b : ℤ} {m next : ℕ} → Here text at 79 → TriedIs (class_of 4) text (at + 2) (Value l m) → TriedIs (class_of 5) text (at + 4) (Value i next)
+  pub index_read : {l i a b : ℤ} {m next : ℕ} → Here text at 79 → TriedIs (class_of Label) text (at + 2) (Some (record { value = l; next = m })) → TriedIs (class_of FromNode) text (at + 4) (Some (record { value = i; next = next }))
       → a ≡ l → b ≡ i → Indexed a b low high bounds next r → AmountSeen text left at low high bounds r
   unfolding class_of
   index_read {l} {i} {a} {b} {m} {next} h s t ea eb w =
@@ -175,7 +175,7 @@ party_whole {text} {at} {next} {z} t = go (fields_from text at) t.is
     go (f ∷ fs) e = by (read_number f) e
 
 pub transfer_read : {text : List ℕ} → Short text → {left at : ℕ} → 0 < left → {low high : ℤ} {bounds : List ℤ} {need : ℕ} {days : List ℤ} {p q : ℤ} {m next r : ℕ}
-    → at < length text → up_to 44 (drop at text) ≡ 84 ∷ [] → TriedIs (class_of 3) text (at + 2) (Value p m) → TriedIs (class_of 3) text (at + 4) (Value q next)
+    → at < length text → up_to 44 (drop at text) ≡ 84 ∷ [] → TriedIs (class_of Party) text (at + 2) (Some (record { value = p; next = m })) → TriedIs (class_of Party) text (at + 4) (Some (record { value = q; next = next }))
     → need ≡ 0 → Kept r → Ended 1 next high r → PlanSeen text left at low high bounds need days r
 unfolding class_of
 transfer_read {text} short {left} {at} level {low} {high} {bounds} {need} {days} {p} {q} {m} {next} {r} inside alone s t ez k x =

@@ -9,9 +9,9 @@ ghost use Rattle.one_pass.specs.Reads.{Here, Short};
 ghost use Rattle.one_pass.specs.Seen.{AmountIs, DelayOf, DelaySeen, DigitsSeen, DivisorSeen, Ended, Indexed, PlanIs};
 
 use crate::packed::{UNSURE, number_for};
-use fields::field::{FROM_NODE, LABEL, PARTY, Taking, last_digit, one_digit};
+use fields::field::{FROM_NODE, LABEL, PARTY, last_digit, one_digit};
 use fields::numbers::{Number, read_number};
-use fields::slots::{Slots, quick_delay};
+use fields::slots::quick_delay;
 use integers::Month;
 use measures::limit::BEYOND;
 
@@ -37,8 +37,7 @@ fn digits_from(text: &&[u8], at: usize) -> u64
     ensures { Kept result → DigitsSeen text.now.now at result }
 {
     let mut v: u64 = 0;
-    let mut i = at;
-    while i < text.len() {
+    for i in at..text.len() {
         let b = text[i];
         match b {
             b'0'..=b'9' => {
@@ -54,7 +53,6 @@ fn digits_from(text: &&[u8], at: usize) -> u64
                 return UNSURE;
             }
         }
-        i += 1;
     }
     UNSURE
 }
@@ -68,8 +66,12 @@ pub fn number_at(text: &&[u8], at: usize) -> u64
     match c {
         b'1'..=b'9' => digits_from(text, at + 2),
         _ => match read_number(*text, at + 2, b',') {
-            Number::Is { value, end } => number_for(integers::magnitude(value), 0, end as u64 + 1),
-            Number::Bad => UNSURE,
+            Some(Number { value, end }) => number_for(
+                integers::magnitude(value),
+                0,
+                end as u64 + 1,
+            ),
+            None => UNSURE,
         },
     }
 }
@@ -111,11 +113,11 @@ pub fn index_at(text: &&[u8], at: usize, low: Month, high: Month, bounds: &&[i64
     ensures { (left : ℕ) → 0 < left → AmountIs text.now.now left at low.0 high.0 bounds.now.now result }
 {
     match one_digit(*text, at + 2, LABEL) {
-        Taking::Value { value: l, next } => match one_digit(*text, at + 4, FROM_NODE) {
-            Taking::Value { value: i, next: n } => index_of(l, i, n, low, high, bounds),
-            Taking::Wrong => UNSURE,
+        Some(l) => match one_digit(*text, at + 4, FROM_NODE) {
+            Some(i) => index_of(l.value, i.value, i.next, low, high, bounds),
+            None => UNSURE,
         },
-        Taking::Wrong => UNSURE,
+        None => UNSURE,
     }
 }
 
@@ -145,8 +147,8 @@ pub fn delay_at(text: &&[u8], at: usize, days: &&[i64]) -> u64
     ensures { Kept result → DelaySeen text.now.now (at + 2) days.now.now result }
 {
     match quick_delay(*text, at + 2) {
-        Slots::Filled { a, b, c, d, next } => delay_of(a, next, days),
-        Slots::Unfilled => UNSURE,
+        Some(s) => delay_of(s.a, s.next, days),
+        None => UNSURE,
     }
 }
 
@@ -172,11 +174,11 @@ pub fn transfer_at(text: &&[u8], at: usize, high: Month, need: u64) -> u64
         return UNSURE;
     }
     match one_digit(*text, at + 2, PARTY) {
-        Taking::Value { value: p, next } => match one_digit(*text, at + 4, PARTY) {
-            Taking::Value { value: q, next: n } => ended(1, n, high),
-            Taking::Wrong => UNSURE,
+        Some(p) => match one_digit(*text, at + 4, PARTY) {
+            Some(q) => ended(1, q.next, high),
+            None => UNSURE,
         },
-        Taking::Wrong => UNSURE,
+        None => UNSURE,
     }
 }
 
@@ -193,15 +195,15 @@ fn last_transfer(text: &&[u8], at: usize, high: Month, need: u64) -> u64
     }
     if (text[at] == b'T') & (text[at + 1] == b',') {
         match one_digit(*text, at + 2, PARTY) {
-            Taking::Value { value: p, next } => match last_digit(*text, at + 4, PARTY) {
-                Taking::Value { value: q, next: n } => {
-                    return ended(1, n, high);
+            Some(p) => match last_digit(*text, at + 4, PARTY) {
+                Some(q) => {
+                    return ended(1, q.next, high);
                 }
-                Taking::Wrong => {
+                None => {
                     return UNSURE;
                 }
             },
-            Taking::Wrong => {
+            None => {
                 return UNSURE;
             }
         }

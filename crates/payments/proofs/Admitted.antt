@@ -3,8 +3,6 @@ use Prim.Native.Nat.{ℕ}
 use lib.IntN.{nat_abs, ℤ}
 use mathlib.Core.Bool.{Bool, ◌&&◌, false, true}
 use mathlib.Core.Path.{◌∙◌, ◌≡◌, ap, refl, sym}
-use Rattle.integers.specs.declared.Month.{Month}
-use Rattle.integers.specs.declared.Pence.{Pence}
 use Rattle.language.proofs.Acceptance.{no_answer, passed}
 use Rattle.language.specs.Acceptance.{Passed}
 use Rattle.language.specs.Answer.{Answer, ◌>>=◌, ◌>>◌, got, refused, require}
@@ -15,10 +13,10 @@ use Rattle.language.specs.Text.Trees.{Delay, Plan}
 use Rattle.rules.specs.Accepting.{accepting}
 use Rattle.rules.specs.Answers.{checking_answer}
 use Rattle.rules.specs.Measured.{checked_of}
-use Rattle.rules.specs.declared.Checking.TheVariants as checking
-use Rattle.rules.specs.declared.Checking.TheVariants.{Accepted}
 use Rattle.text.specs.Refusals.{number_of}
 use Rattle.text.specs.declared.Refusal.{Refusal}
+use Rattle.std.specs.Prelude.{Err, Ok}
+use Rattle.rules.specs.declared.Accepted.{Accepted}
 
 pub record Admitted (g : Given) (today : ℤ) (ok : Bool) (x : Plan Delay) : Type 0 where
   pub asked : ok ≡ true
@@ -36,17 +34,17 @@ module _ (g : Given) (today : ℤ) (x : Plan Delay) where
       go true false r e = no_answer e
       go true true r e = no_answer e
 
-  pub admitted : (ok : Bool) (l : Month) (m : Pence) → checking_answer (Accepted l m) ≡ accepting g today ok x → Admitted g today ok x
+  pub admitted : (ok : Bool) (plan : Accepted) → checking_answer (Ok plan) ≡ accepting g today ok x → Admitted g today ok x
   unfolding checking_answer
-  admitted ok l m e = go ok (accept_plan g today ok x) refl e
+  admitted ok plan e = go ok (accept_plan g today ok x) refl e
     where
-      go : (ok : Bool) (a : Answer (Plan ℕ)) → accept_plan g today ok x ≡ a → got (record { length = nat_abs l.0; magnitude = nat_abs m.0 }) ≡ (a >>= λ y. got (checked_of g.table y)) → Admitted g today ok x
+      go : (ok : Bool) (a : Answer (Plan ℕ)) → accept_plan g today ok x ≡ a → got (record { length = nat_abs plan.length.0; magnitude = nat_abs plan.magnitude.0 }) ≡ (a >>= λ y. got (checked_of g.table y)) → Admitted g today ok x
       go ok (refused n) p q = no_answer (sym q)
       go true (got z) p q = let h = passed g x today z p in record { asked = refl; passed = h.0; filled = p ∙ ap got (sym h.1) }
       go false (got z) p q = at_fault z p
 
   -- a refusal of the plan is the call's
-  pub refusing : (ok : Bool) (k : Refusal) → checking_answer (checking.Refused k) ≡ accepting g today ok x → accept_plan g today ok x ≡ refused (number_of k)
+  pub refusing : (ok : Bool) (k : Refusal) → checking_answer (Err k) ≡ accepting g today ok x → accept_plan g today ok x ≡ refused (number_of k)
   unfolding checking_answer
   refusing ok k e = go (accept_plan g today ok x) refl e
     where

@@ -26,7 +26,6 @@ use Rattle.nodes.specs.Stands.{PlanStands}
 use Rattle.nodes.specs.Table.{nat_of}
 use Rattle.payments.proofs.Admitted.{Admitted}
 use Rattle.payments.specs.Answers.{asked_ok, paid_by, paying_answer}
-use Rattle.payments.specs.declared.Paying.TheVariants.{Pays, Refused}
 use Rattle.pays.proofs.Asked.{asked_in, pair_in, today_in}
 use Rattle.pays.proofs.FinePlans.{accepted_fine}
 use Rattle.pays.proofs.PlacedPays.{flat_pays}
@@ -35,12 +34,12 @@ use Rattle.pays.specs.Parties.{PairIn}
 use Rattle.places.proofs.PassFound.{pass_found, pass_in, table_span}
 use Rattle.places.specs.Place.{SpanIn, placed_row, row_in}
 use Rattle.rules.proofs.Filling.{fill_formed, whole}
-use Rattle.rules.specs.Answers.{given_of}
 use Rattle.rules.specs.Standing.{Standing}
 use Rattle.tables.proofs.Spans.{span_holds}
-use Rattle.tables.specs.Given.{table_of}
+use Rattle.tables.specs.Given.{given_of, table_of}
 use Rattle.text.specs.Refusals.{number_of}
 use Rattle.text.specs.declared.Refusal.{Refusal}
+use Rattle.std.specs.Prelude.{Err, Ok}
 
 module _ (days : List ℤ) (h f : ℤ) (factors bounds values : List ℤ) (today p q month : ℤ) (x : Plan Delay) (count : ℕ) (before after : List ℤ)
     (s : Standing before count x) (a : Admitted (given_of days h f factors bounds values) today (asked_ok (given_of days h f factors bounds values) today p q month) x)
@@ -81,7 +80,7 @@ module _ (days : List ℤ) (h f : ℤ) (factors bounds values : List ℤ) (today
         (subst (λ r. FinePlan values (sign_of p q) (placed_plan (place_in t) y) r (nat_of month)) (nat_of_known today today_is.known)
         (accepted_fine t a.passed.table (nat_abs p) (nat_abs q) (nat_abs f) (span_holds h f factors bounds values a.passed.table).1.small filled_in_form y (nat_abs today) (nat_of month) a.passed.meets formed.fields))
 
-    pub pays_is : (r : Pence) → r.0 ≡ pays (flat values) (sign_of p q) (plan_at nat_of 32 placed 0) (nat_of today) (nat_of month) → paying_answer (Pays r) ≡ paid_by (given_of days h f factors bounds values) today p q month x
+    pub pays_is : (r : Pence) → r.0 ≡ pays (flat values) (sign_of p q) (plan_at nat_of 32 placed 0) (nat_of today) (nat_of month) → paying_answer (Ok r) ≡ paid_by (given_of days h f factors bounds values) today p q month x
     unfolding paying_answer
     pays_is r k =
         ap got
@@ -91,6 +90,6 @@ module _ (days : List ℤ) (h f : ℤ) (factors bounds values : List ℤ) (today
         ∙ rw a.filled refl
 
 -- a plan that was refused pays nothing but its refusal
-pub refused_is : (g : Given) (today p q month : ℤ) (x : Plan Delay) (k : Refusal) → accept_plan g today (asked_ok g today p q month) x ≡ refused (number_of k) → paying_answer (Refused k) ≡ paid_by g today p q month x
+pub refused_is : (g : Given) (today p q month : ℤ) (x : Plan Delay) (k : Refusal) → accept_plan g today (asked_ok g today p q month) x ≡ refused (number_of k) → paying_answer (Err k) ≡ paid_by g today p q month x
 unfolding paying_answer
 refused_is g today p q month x k e = rw e refl

@@ -12,11 +12,11 @@ use Rattle.language.specs.Calls.{into_buffer}
 use Rattle.language.specs.Text.Number.{print_nat}
 use Rattle.payments.specs.Answers.{stepping_answer}
 use Rattle.payments.specs.Waits.{sooner, wait_call}
-use Rattle.payments.specs.declared.Stepping.TheVariants.{Refused, Stepped}
 use Rattle.text.specs.declared.Refusal.TheVariants.{NoRoom}
 use Rattle.writer.proofs.Decimal.{digits_most}
 use Rattle.writer.proofs.Puts.{kept, pair, said, then}
 use Rattle.writer.specs.Put.{Put}
+use Rattle.std.specs.Prelude.{Err, Ok}
 
 in-front : (text buffer : List ℕ) → length text ≤ length buffer → sets buffer 0 text ≡ text ++ drop (length text) buffer
 in-front text buffer h =
@@ -45,7 +45,7 @@ module _ (text : List ℕ) (d : ℕ) (long : 2 + length (print_nat d) ≤ length
         length-drop (2 + length (print_nat d)) text,
       )
 
-  pub no_room : length buffer < 2 + m + (length text - (2 + n)) → (buffer ≡ (wait_call d text buffer).buffer) × (stepping_answer (Refused NoRoom) ≡ (wait_call d text buffer).answer)
+  pub no_room : length buffer < 2 + m + (length text - (2 + n)) → (buffer ≡ (wait_call d text buffer).buffer) × (stepping_answer (Err NoRoom) ≡ (wait_call d text buffer).answer)
   unfolding wait_call into_buffer stepping_answer
   no_room h = let e = lt-leb (length (sooner d text)) (length buffer) (omega (arith, h, sooner_length)) in (rw e refl, rw e refl)
 
@@ -72,7 +72,7 @@ module _ (text : List ℕ) (d : ℕ) (long : 2 + length (print_nat d) ≤ length
         unfolding sooner
         all_put = then (said (first_two text (omega (arith, long))) (pair buffer 0 (get_or text 0 0) (get_or text 1 0))) (then p (said (ap (λ k. drop (2 + k) text) en) q))
 
-        pub whole : (v : Pence) → v.0 ≡ pos 0 → (out ≡ (wait_call d text buffer).buffer) × (stepping_answer (Stepped v end) ≡ (wait_call d text buffer).answer)
+        pub whole : (v : Pence) → v.0 ≡ pos 0 → (out ≡ (wait_call d text buffer).buffer) × (stepping_answer (Ok (record { pence = v; bytes = end })) ≡ (wait_call d text buffer).answer)
         unfolding wait_call into_buffer stepping_answer
         whole v ev =
             let r : length (sooner d text) ≤ length buffer = omega (arith, room, sooner_length) in

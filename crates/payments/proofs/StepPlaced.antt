@@ -46,7 +46,6 @@ use Rattle.payments.proofs.WaitReady.{not_true, root_test, waits_on}
 use Rattle.payments.proofs.Waiting.{WaitsOn}
 use Rattle.payments.specs.Answers.{stepped_by, stepping_answer}
 use Rattle.payments.specs.Waits.{RootTest, waits_at_root, sooner, wait_call}
-use Rattle.payments.specs.declared.Stepping.TheVariants.{Refused, Stepped}
 use Rattle.pays.proofs.Asked.{pair_in, today_in}
 use Rattle.pays.proofs.FinePlans.{accepted_fine}
 use Rattle.pays.proofs.PlacedPays.{flat_pays}
@@ -58,15 +57,12 @@ use Rattle.places.proofs.PlanPlaces.{count_placed}
 use Rattle.places.specs.Place.{SpanIn, place_found, placed_row, row_in}
 use Rattle.rules.proofs.Filling.{fill_formed, whole}
 use Rattle.rules.specs.Accepting.{AcceptIs, accepting}
-use Rattle.rules.specs.Answers.{checking_answer, given_of}
+use Rattle.rules.specs.Answers.{checking_answer}
 use Rattle.rules.specs.Standing.{Standing}
-use Rattle.rules.specs.declared.Checking.TheVariants as checking
-use Rattle.rules.specs.declared.Checking.TheVariants.{Accepted}
-use Rattle.rules.specs.declared.Checking.{Checking}
 use Rattle.steps.proofs.StepReady.{early, row_in_lem}
 use Rattle.steps.specs.Ready.{Ready}
 use Rattle.tables.proofs.Spans.{span_holds}
-use Rattle.tables.specs.Given.{table_of}
+use Rattle.tables.specs.Given.{given_of, table_of}
 use Rattle.tables.specs.Lookup.{read_table}
 use Rattle.text.proofs.SettingBytes.{none_open}
 use Rattle.text.specs.Opens.{opens}
@@ -77,9 +73,9 @@ use Rattle.writer.proofs.Plans.{plan_says}
 use Rattle.writer.proofs.Values.{answer_with, into_answer, into_buffer_lem}
 use Rattle.writer.specs.Answers.{write_call, written_answer}
 use Rattle.writer.specs.Written.{slot, written}
-use Rattle.writer.specs.declared.Written.TheVariants as written
-use Rattle.writer.specs.declared.Written.TheVariants.{Bytes}
-use Rattle.writer.specs.declared.Written.{Written}
+use Rattle.std.specs.Prelude.{Err, Ok, Result}
+use Rattle.rules.specs.declared.Accepted.{Accepted}
+use Rattle.writer.specs.declared.NoRoom as no_room
 
 -- a plan that stood in the table was accepted, and stands there filled
 pub record Placing (days : List ℤ) (h f : ℤ) (factors bounds values : List ℤ) (today p q : ℤ) (x : Plan Delay) (count : ℕ) (before after : List ℤ) : Type 0 where
@@ -87,11 +83,11 @@ pub record Placing (days : List ℤ) (h f : ℤ) (factors bounds values : List �
   pub accepted : Admitted (given_of days h f factors bounds values) today (pair_ok p q) x
   pub filled : Standing after count (closed (fill (setting_at days) x))
 
-pub placing : {days : List ℤ} {h f : ℤ} {factors bounds values : List ℤ} {today : ℤ} (p q : ℤ) {x : Plan Delay} {count : ℕ} {before after : List ℤ} {asked : Bool} {r : Checking} {l : Month} {m : Pence}
-    → AcceptIs (given_of days h f factors bounds values) today asked count before after r → asked ≡ pair_ok p q → r ≡ Accepted l m → Standing before count x → Placing days h f factors bounds values today p q x count before after
-placing {days} {h} {f} {factors} {bounds} {values} {today} p q {x} {l = l} {m = m} k ea e s =
+pub placing : {days : List ℤ} {h f : ℤ} {factors bounds values : List ℤ} {today : ℤ} (p q : ℤ) {x : Plan Delay} {count : ℕ} {before after : List ℤ} {asked : Bool} {r : Result Accepted Refusal} {plan : Accepted}
+    → AcceptIs (given_of days h f factors bounds values) today asked count before after r → asked ≡ pair_ok p q → r ≡ Ok plan → Standing before count x → Placing days h f factors bounds values today p q x count before after
+placing {days} {h} {f} {factors} {bounds} {values} {today} p q {x} {plan = plan} k ea e s =
     let g = given_of days h f factors bounds values in
-    record { stood = s; accepted = admitted g today x (pair_ok p q) l m (ap checking_answer (sym e) ∙ k.answer x s ∙ ap (λ b. accepting g today b x) ea); filled = k.filled l m e x s }
+    record { stood = s; accepted = admitted g today x (pair_ok p q) plan (ap checking_answer (sym e) ∙ k.answer x s ∙ ap (λ b. accepting g today b x) ea); filled = k.filled plan e x s }
 
 module _ {days : List ℤ} {h f : ℤ} {factors bounds values : List ℤ} {today p q : ℤ} {x : Plan Delay} {count : ℕ} {before after : List ℤ} (w : Placing days h f factors bounds values today p q x count before after) where
   abbrev a : Admitted (given_of days h f factors bounds values) today (pair_ok p q) x
@@ -209,7 +205,7 @@ module _ {days : List ℤ} {h f : ℤ} {factors bounds values : List ℤ} {today
       pub buffer_is : {bytes : List ℕ} → bytes ≡ (write_call n out buffer).buffer → bytes ≡ (into_buffer buffer (stepped_by (given_of days h f factors bounds values) today p q x)).buffer
       buffer_is {bytes} d = into_buffer_lem pays_today buffer text_of n out text_is bytes d ∙ ap (λ o. (into_buffer buffer o).buffer) (sym by_rules)
 
-      pub answer_is : {v : ℤ} → v ≡ pays_today → (r : Written) → written_answer r ≡ (write_call n out buffer).answer → answer_with v r ≡ (into_buffer buffer (stepped_by (given_of days h f factors bounds values) today p q x)).answer
+      pub answer_is : {v : ℤ} → v ≡ pays_today → (r : Result ℕ no_room.NoRoom) → written_answer r ≡ (write_call n out buffer).answer → answer_with v r ≡ (into_buffer buffer (stepped_by (given_of days h f factors bounds values) today p q x)).answer
       answer_is paid r d = ap (λ u. answer_with u r) paid ∙ into_answer pays_today buffer text_of n out text_is r d ∙ ap (λ o. (into_buffer buffer o).answer) (sym by_rules)
 
   -- ---- a root that goes on waiting
@@ -259,17 +255,17 @@ module _ {days : List ℤ} {h f : ℤ} {factors bounds values : List ℤ} {today
 
 -- ---- the answers of the code
 
-pub with_bytes : (v : Pence) (n : ℕ) → stepping_answer (Stepped v n) ≡ answer_with v.0 (Bytes n)
+pub with_bytes : (v : Pence) (n : ℕ) → stepping_answer (Ok (record { pence = v; bytes = n })) ≡ answer_with v.0 (Ok n)
 unfolding stepping_answer answer_with
 with_bytes v n = refl
 
-pub without_room : (v : Pence) → stepping_answer (Refused NoRoom) ≡ answer_with v.0 written.NoRoom
+pub without_room : (v : Pence) → stepping_answer (Err NoRoom) ≡ answer_with v.0 (Err _)
 unfolding stepping_answer answer_with
 without_room v = refl
 
 -- a plan that was refused leaves the buffer as it was
-module _ {days : List ℤ} {h f : ℤ} {factors bounds values : List ℤ} {today : ℤ} (p q : ℤ) {x : Plan Delay} {count : ℕ} {before after : List ℤ} {asked : Bool} {r : Checking} {k : Refusal}
-    (c : AcceptIs (given_of days h f factors bounds values) today asked count before after r) (ea : asked ≡ pair_ok p q) (er : r ≡ checking.Refused k) (s : Standing before count x) (buffer : List ℕ) where
+module _ {days : List ℤ} {h f : ℤ} {factors bounds values : List ℤ} {today : ℤ} (p q : ℤ) {x : Plan Delay} {count : ℕ} {before after : List ℤ} {asked : Bool} {r : Result Accepted Refusal} {k : Refusal}
+    (c : AcceptIs (given_of days h f factors bounds values) today asked count before after r) (ea : asked ≡ pair_ok p q) (er : r ≡ Err k) (s : Standing before count x) (buffer : List ℕ) where
   refused_is : accept_plan (given_of days h f factors bounds values) today (pair_ok p q) x ≡ refused (number_of k)
   refused_is =
       let g = given_of days h f factors bounds values in
@@ -279,6 +275,6 @@ module _ {days : List ℤ} {h f : ℤ} {factors bounds values : List ℤ} {today
   unfolding into_buffer
   refusal_keeps = rw refused_is refl
 
-  pub refusal_is : stepping_answer (Refused k) ≡ (into_buffer buffer (stepped_by (given_of days h f factors bounds values) today p q x)).answer
+  pub refusal_is : stepping_answer (Err k) ≡ (into_buffer buffer (stepped_by (given_of days h f factors bounds values) today p q x)).answer
   unfolding into_buffer stepping_answer
   refusal_is = rw refused_is refl

@@ -15,13 +15,13 @@ use Rattle.language.specs.Text.Reader.{end, text_as_read}
 use Rattle.language.specs.Text.Trees.{Delay, Plan}
 use Rattle.nodes.proofs.PlansFound.{plan_found}
 use Rattle.payments.specs.Answers.{stepped_by, stepping_answer}
-use Rattle.payments.specs.declared.Stepping.TheVariants.{Refused}
 use Rattle.rules.proofs.Checks.{read_standing}
 use Rattle.rules.proofs.Filling.{laid}
 use Rattle.rules.specs.Standing.{Standing}
 use Rattle.text.specs.ReadInto as read
 use Rattle.text.specs.Refusals.{number_of}
 use Rattle.text.specs.declared.Refusal.{Refusal}
+use Rattle.std.specs.Prelude.{Err}
 
 -- one plan stands in a table
 one_plan : {nodes : List ℤ} {n : ℕ} {x y : Plan Delay} → Standing nodes n x → Standing nodes n y → x ≡ y
@@ -50,6 +50,6 @@ module _ (text : List ℕ) (g : Given) (today p q : ℤ) (buffer : List ℕ) whe
     unfolding step_call step_text read_plan into_buffer
     text_keeps = rw e refl
 
-    pub text_refusal : stepping_answer (Refused k) ≡ (step_call text g today p q buffer).answer
+    pub text_refusal : stepping_answer (Err k) ≡ (step_call text g today p q buffer).answer
     unfolding step_call step_text read_plan into_buffer stepping_answer
     text_refusal = rw e refl

@@ -21,11 +21,11 @@ fn root_waits(nodes: &[i64], values: &[i64], today: Month) -> bool
     requires { MonthIn today.0 × RowIn nodes.now 0 × RootTest values.now (nat_of today.0) nodes.now }
     ensures { result ≡ waits_at_root values.now (nat_of today.0) nodes.now }
 {
-    let d = reads::delay(nodes, 0);
+    let d = nodes::delay(nodes, 0);
     if offsets::due(d) {
         return false;
     }
-    let letter = copies::plan_kind(nodes, 0);
+    let letter = nodes::plan_kind(nodes, 0);
     match letter {
         PlanLetter::Nothing => false,
         PlanLetter::Transfer => false,
@@ -54,18 +54,13 @@ fn put_rest(text: &[u8], from: usize, out: &mut [u8], at: usize) -> usize
     requires { (from ≤ length text.now) × (at + (length text.now - from) ≤ length out.old) }
     ensures { Put out.old out.new at result (drop from text.now) }
 {
-    let count = text.len() - from;
-    let mut i = 0;
-    while i < count {
-        let b = text[from + i];
-        out[at + i] = b;
-        i += 1;
-    }
-    at + count
+    let end = at + (text.len() - from);
+    out[at..end].copy_from_slice(&text[from..]);
+    end
 }
 
 // The text of a plan whose root waits d months, with one month less, into `out`; or no byte of it where it does not fit.
-pub fn shorter_wait(text: &[u8], d: u64, out: &mut [u8]) -> Stepping
+pub fn shorter_wait(text: &[u8], d: u64, out: &mut [u8]) -> Result<Stepping, Refusal>
     requires { (0 < d) × (d ≤ 2 ^ 63) × (2 + length (print_nat d) ≤ length text.now) × (length text.now ≤ plan_bytes) }
     ensures { (out.new ≡ (wait_call d text.now out.old).buffer)
         × (stepping_answer result ≡ (wait_call d text.now out.old).answer) }
@@ -74,7 +69,7 @@ pub fn shorter_wait(text: &[u8], d: u64, out: &mut [u8]) -> Stepping
     let from = 2 + digits::digit_count(d);
     let need = 2 + digits::digit_count(less) + (text.len() - from);
     if out.len() < need {
-        return Stepping::Refused(Refusal::NoRoom);
+        return Err(Refusal::NoRoom);
     }
     let letter = text[0];
     let comma = text[1];
@@ -82,5 +77,8 @@ pub fn shorter_wait(text: &[u8], d: u64, out: &mut [u8]) -> Stepping
     out[1] = comma;
     let at = digits::put_digits(less, out, 2);
     let end = put_rest(text, from, out, at);
-    Stepping::Stepped(Pence(0), end)
+    Ok(Stepping {
+        pence: Pence(0),
+        bytes: end,
+    })
 }

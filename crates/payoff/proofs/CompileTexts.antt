@@ -25,13 +25,13 @@ use Rattle.nodes.proofs.Counts.{plan_rows}
 use Rattle.nodes.proofs.Laid.{rows_length}
 use Rattle.nodes.specs.Rows.{count_of, rows, settings_slot}
 use Rattle.payoff.specs.Answers.{writing_answer}
-use Rattle.payoff.specs.declared.Writing.TheVariants.{Refused}
 use Rattle.text.specs.ReadInto as read
 use Rattle.text.specs.Refusals.{number_of}
 use Rattle.text.specs.declared.Refusal.{Refusal}
 use Rattle.writer.proofs.Payoffs.{payoff_says}
 use Rattle.writer.specs.Answers.{write_call}
 use Rattle.writer.specs.Written.{written}
+use Rattle.std.specs.Prelude.{Err}
 
 module _ (text : List ℕ) where
   module _ (nodes : List ℤ) (n : ℕ) (s : read.Stands plan_form (text_as_read plan_form text) nodes n) where
@@ -83,6 +83,6 @@ module _ (text : List ℕ) where
     unfolding compile_call compile_text read_plan into_buffer
     kept = rw e refl
 
-    pub refusal_is : writing_answer (Refused k) ≡ (compile_call text buffer).answer
+    pub refusal_is : writing_answer (Err k) ≡ (compile_call text buffer).answer
     unfolding compile_call compile_text read_plan into_buffer writing_answer
     refusal_is = rw e refl

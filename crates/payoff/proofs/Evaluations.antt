@@ -30,21 +30,21 @@ use Rattle.payoff.proofs.FilledRanges.{filled_range}
 use Rattle.payoff.proofs.Opens.{none_open}
 use Rattle.text.specs.Opens.{opens}
 use Rattle.payoff.proofs.TableFacts.{month_known}
-use Rattle.payoff.specs.Evaluating.{EvaluateIs, Standing, Stands, evaluating_answer, given_of}
-use Rattle.payoff.specs.declared.Evaluating.{Evaluating}
-use Rattle.payoff.specs.declared.Evaluating.TheVariants.{Refused}
+use Rattle.payoff.specs.Evaluating.{EvaluateIs, Standing, Stands, evaluating_answer}
 use Rattle.settling.proofs.FilledFound.{filled_found, filled_laid}
 use Rattle.settling.proofs.PayoffSettles as settled
 use Rattle.settling.proofs.PayoffSettles.{filled_trees}
 use Rattle.settling.proofs.PlainRows.{plain_settled}
 use Rattle.settling.specs.Settle.{SettleIs, Settled, row_in, row_settled, settle_row}
-use Rattle.tables.specs.declared.fill.Filling.TheVariants.{Filled}
+use Rattle.tables.specs.Given.{given_of}
 use Rattle.text.specs.ReadInto as read
 use Rattle.text.specs.Refusals.{number_of}
 use Rattle.text.specs.declared.Refusal.{Refusal}
 use Rattle.text.specs.declared.Refusal.TheVariants as refusal
 use Rattle.worths.specs.Checked.{worth_in}
 use Rattle.worths.specs.Ranges.{FieldsIn}
+use Rattle.std.specs.Prelude.{Err, Ok, Result}
+use Rattle.integers.specs.declared.Millionths.{Millionths}
 
 -- ---- a payoff that stands in the table
 module _ {nodes : List ℤ} {count : ℕ} {x : Written} (s : Standing nodes count x) where
@@ -82,36 +82,36 @@ module _ (days : List ℤ) (h f : ℤ) (factors bounds values : List ℤ) (p q n
   abbrev g : Given
   g = given_of days h f factors bounds values
 
-  abbrev Is : Evaluating → Type 0
+  abbrev Is : Result Millionths Refusal → Type 0
   Is = EvaluateIs g p q now count before
 
-  pub no_table : is_table g.table ≡ false → Is (Refused refusal.Table)
+  pub no_table : is_table g.table ≡ false → Is (Err refusal.Table)
   unfolding evaluate
   no_table e = record { answer = λ x s. rw e refl }
 
   module _ (t : is_table g.table ≡ true) where
-    pub no_caller : is_month g.table now && pair_ok p q ≡ false → Is (Refused refusal.Caller)
+    pub no_caller : is_month g.table now && pair_ok p q ≡ false → Is (Err refusal.Caller)
     unfolding evaluate
     no_caller e = record { answer = λ x s. rw (t, e) refl }
 
     module _ (m : is_month g.table now && pair_ok p q ≡ true) where
-      pub bad_settings : are_settings days ≡ false → Is (Refused refusal.Settings)
+      pub bad_settings : are_settings days ≡ false → Is (Err refusal.Settings)
       unfolding evaluate
       bad_settings e = record { answer = λ x s. rw (t, m, e) refl }
 
       module _ (e : are_settings days ≡ true) where
-        pub unset : all_rows (row_settled days) count before ≡ false → Is (Refused refusal.Settings)
+        pub unset : all_rows (row_settled days) count before ≡ false → Is (Err refusal.Settings)
         unfolding evaluate
         unset u = record { answer = λ x s. let v = sym (set_is s days) ∙ u in rw (t, m, e, v) refl }
 
         -- the table as it was settled, in which the walk goes
-        module _ {after : List ℤ} (u : SettleIs days count before after Filled) where
+        module _ {after : List ℤ} (u : SettleIs days count before after (Ok _)) where
           pub walked : Stands before count → PayoffStands 32 after 0 × FieldsIn (payoff_at nat_of offset_of 32 after 0) × PayoffBlocks 32 after 0
           walked s =
               let w = found s.standing days u.1 in
               (w.safe, subst FieldsIn (sym w.is) (filled_range (setting_at days) (setting_small days e) s.payoff s.standing.formed.fields), found_blocks s.standing days u.1)
 
-          pub valued : {r : Evaluating} → evaluating_answer r ≡ worth_in g.table p q (nat_of now) (payoff_at nat_of offset_of 32 after 0) 0 → Is r
+          pub valued : {r : Result Millionths Refusal} → evaluating_answer r ≡ worth_in g.table p q (nat_of now) (payoff_at nat_of offset_of 32 after 0) 0 → Is r
           unfolding evaluate
           valued {r} a = record {
             answer = λ x s.
@@ -135,10 +135,10 @@ module _ (text : List ℕ) where
     pub read_settled : opens text ≡ false → Settled n nodes
     read_settled e = plain_stands standing (ap opens (payoff_read text was.payoff was.is).1 ∙ e)
 
-    pub evaluate_is : (g : Given) (p q now : ℤ) {r : Evaluating} → EvaluateIs g p q now n nodes r → evaluating_answer r ≡ evaluate_call text g p q now
+    pub evaluate_is : (g : Given) (p q now : ℤ) {r : Result Millionths Refusal} → EvaluateIs g p q now n nodes r → evaluating_answer r ≡ evaluate_call text g p q now
     unfolding evaluate_call
     evaluate_is g p q now h = h.answer was.payoff standing ∙ rw was.is refl
 
-  pub evaluate_refuses : (g : Given) (p q now : ℤ) (k : Refusal) → text_as_read payoff_form text ≡ refused (number_of k) → evaluating_answer (Refused k) ≡ evaluate_call text g p q now
+  pub evaluate_refuses : (g : Given) (p q now : ℤ) (k : Refusal) → text_as_read payoff_form text ≡ refused (number_of k) → evaluating_answer (Err k) ≡ evaluate_call text g p q now
   unfolding evaluate_call read_payoff
   evaluate_refuses g p q now k e = rw e refl

@@ -1,6 +1,6 @@
 -- A payoff whose text has no `P` has no open setting.
 use Prim.Native.Nat.{ℕ}
-use mathlib.Core.Bool.{false, true, true≢false}
+use mathlib.Core.Bool.{false, true≢false}
 use mathlib.Core.List.{List, [], ◌∷◌}
 use mathlib.Core.Path.{◌∙◌, ◌≡◌, refl, sym}
 use Rattle.language.specs.Text.Classes.{Field, a_delay, a_month, a_number, print_delay, print_field, print_month, setting_fields}

@@ -16,11 +16,11 @@ use Rattle.language.specs.Text.Reader.{text_as_read}
 use Rattle.payoff.proofs.Cuts.{text_cut}
 use Rattle.payoff.specs.Answers.{writing_answer}
 use Rattle.payoff.specs.Cut.{byte_of_cut}
-use Rattle.payoff.specs.declared.Writing.TheVariants.{Bytes, Refused}
 use Rattle.text.specs.ReadInto as read
 use Rattle.text.specs.Refusals.{number_of}
 use Rattle.text.specs.declared.Refusal.{Refusal}
 use Rattle.text.specs.declared.Refusal.TheVariants.{NoRoom}
+use Rattle.std.specs.Prelude.{Err, Ok}
 
 module _ (text : List ℕ) where
   module _ {nodes : List ℤ} {n : ℕ} (s : read.Stands payoff_form (text_as_read payoff_form text) nodes n) where
@@ -33,13 +33,13 @@ module _ (text : List ℕ) where
         rw (was.is, same) refl
 
     pub cut_is : (buffer : List ℕ) → length text ≤ length buffer → (out : List ℕ) → out ≡ over (map byte_of_cut text) buffer →
-        (out ≡ (cut_call text buffer).buffer) × (writing_answer (Bytes (length text)) ≡ (cut_call text buffer).answer)
+        (out ≡ (cut_call text buffer).buffer) × (writing_answer (Ok (length text)) ≡ (cut_call text buffer).answer)
     unfolding cut_call into_buffer writing_answer
     cut_is buffer h out e =
         let room = le-leb (length (map byte_of_cut text)) (length buffer) (omega (arith, length-map text byte_of_cut)) in
         (rw (is_cut, room) e, rw (is_cut, room, length-map text byte_of_cut) refl)
 
-    pub no_room : (buffer : List ℕ) → length buffer < length text → (buffer ≡ (cut_call text buffer).buffer) × (writing_answer (Refused NoRoom) ≡ (cut_call text buffer).answer)
+    pub no_room : (buffer : List ℕ) → length buffer < length text → (buffer ≡ (cut_call text buffer).buffer) × (writing_answer (Err NoRoom) ≡ (cut_call text buffer).answer)
     unfolding cut_call into_buffer writing_answer
     no_room buffer h = let short = lt-leb (length (map byte_of_cut text)) (length buffer) (omega (arith, length-map text byte_of_cut)) in (rw (is_cut, short) refl, rw (is_cut, short) refl)
 
@@ -48,6 +48,6 @@ module _ (text : List ℕ) where
     unfolding cut_call cut_text read_payoff into_buffer
     kept = rw e refl
 
-    pub refusal_is : writing_answer (Refused k) ≡ (cut_call text buffer).answer
+    pub refusal_is : writing_answer (Err k) ≡ (cut_call text buffer).answer
     unfolding cut_call cut_text read_payoff into_buffer writing_answer
     refusal_is = rw e refl

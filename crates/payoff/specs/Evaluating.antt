@@ -1,5 +1,5 @@
 -- What evaluating answers, with document 01's numbers, and the payoff that stands in the node table.
-use Rattle.std.specs.Prelude.{◌*◌, ℕ, ℤ, take, List, ◌≡◌}
+use Rattle.std.specs.Prelude.{◌*◌, ℕ, ℤ, take, List, ◌≡◌, Err, Ok, Result}
 use Rattle.language.specs.Answer.{Answer, got, refused}
 use Rattle.language.specs.Calls.{Given, evaluate}
 use Rattle.language.specs.Text.Letters.{payoff_form}
@@ -7,19 +7,14 @@ use Rattle.language.specs.Text.PayoffForm.{FormedPayoff}
 use Rattle.language.specs.Text.Plans.{Written, payoff_trees}
 use Rattle.language.specs.Text.Reader.{end}
 use Rattle.nodes.specs.Rows.{count_of, rows}
-use Rattle.payoff.specs.declared.Evaluating.{Evaluating}
-use Rattle.payoff.specs.declared.Evaluating.TheVariants.{Refused, Value}
-use Rattle.tables.specs.Given.{table_of}
 use Rattle.text.specs.Refusals.{number_of}
+use Rattle.integers.specs.declared.Millionths.{Millionths}
+use Rattle.text.specs.declared.Refusal.{Refusal}
 
 -- millionths of a penny, or the refusal's number
-abbrev pub evaluating_answer : Evaluating → Answer ℤ
-evaluating_answer (Value v) = got v.0
-evaluating_answer (Refused k) = refused (number_of k)
-
--- the settings and the table that the call is given
-abbrev pub given_of : List ℤ → ℤ → ℤ → List ℤ → List ℤ → List ℤ → Given
-given_of days h f factors bounds values = record { settings = days; table = table_of h f factors bounds values }
+abbrev pub evaluating_answer : Result Millionths Refusal → Answer ℤ
+evaluating_answer (Ok v) = got v.0
+evaluating_answer (Err k) = refused (number_of k)
 
 -- the first `count` rows are those of the payoff, which keeps the form
 pub record Standing (nodes : List ℤ) (count : ℕ) (x : Written) : Type 0 where
@@ -33,5 +28,5 @@ pub record Stands (nodes : List ℤ) (count : ℕ) : Type 0 where
   pub standing : Standing nodes count payoff
 
 -- whatever payoff stood in the first rows: its answer
-pub record EvaluateIs (g : Given) (p q now : ℤ) (count : ℕ) (before : List ℤ) (r : Evaluating) : Type 0 where
+pub record EvaluateIs (g : Given) (p q now : ℤ) (count : ℕ) (before : List ℤ) (r : Result Millionths Refusal) : Type 0 where
   pub answer : (x : Written) → Standing before count x → evaluating_answer r ≡ evaluate x g p q now

@@ -25,7 +25,7 @@ use Rattle.language.specs.Payments.Pays.{Tried, hit, miss, tried}
 use Rattle.language.specs.Text.Trees.{Test}
 use Rattle.nodes.proofs.Signed.{nat_of_known}
 use Rattle.nodes.specs.Table.{nat_of}
-use Rattle.pays.specs.Until.{UntilIs, end_of, until_of_short, until_of_whole}
+use Rattle.pays.specs.Until.{UntilIs, end_of, until_of_short}
 
 no_hit : {A : Type 0} {j k : ℕ} → miss j ≡ hit k → A
 no_hit e = let z : ◌≡◌ {A = ℕ} 0 1 = cc in absurd (omega arith)
@@ -103,8 +103,3 @@ module _ (t : ℕ → Bool) (root month d : ℤ) (h : MonthsIn root d) (hm : Mon
         short_is (waited.Missed k) q =
             let z = (missed_ended t (nat_of rest) (nat_of root) k q).0 in
             omega (arith, miss_longer t (nat_of rest) (nat_of d) (nat_of root) (nat_of k.0) shorter z.is, rest_is.1, begun)
-
-pub whole_is : (t : ℕ → Bool) (d r m : ℕ) (w : wait.Wait) → w ≡ wait_of (tried t d r) → UntilIs t d r m (until_of_whole w)
-unfolding until_of_whole
-whole_is t d r m (waited.Held k) q = q
-whole_is t d r m (waited.Missed k) q = q

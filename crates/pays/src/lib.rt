@@ -12,11 +12,11 @@ ghost use Rattle.nodes.specs.Table.{nat_of};
 ghost use Rattle.pays.specs.FinePlan.{FinePlan};
 ghost use Rattle.pays.specs.Parties.{PairIn};
 
+use amounts::Tables;
+use amounts::wait::Wait;
 use integers::{Month, Pence};
 use nodes::PlanLetter;
-use until::Until;
 
-pub mod rows;
 pub mod scale;
 pub mod transfer;
 pub mod until;
@@ -30,77 +30,47 @@ pub struct Pair {
 
 // What the plan at a node pays in `month`, its root in month `root`.
 pub fn plan_pays(
-    nodes: &&[i64],
-    values: &&[i64],
+    tables: &Tables,
     root: Month,
     month: Month,
     pair: Pair,
     at: usize,
     left: usize,
 ) -> Pence
-    requires { MonthIn root.0 × MonthIn month.0 × PairIn pair.p pair.q × PlanStands left nodes.now.now at × FinePlan values.now.now (sign_of pair.p pair.q) (plan_at nat_of left nodes.now.now at) (nat_of root.0) (nat_of month.0) }
-    ensures { result.0 ≡ pays (flat values.now.now) (sign_of pair.p pair.q) (plan_at nat_of left nodes.now.now at) (nat_of root.0) (nat_of month.0) }
+    requires { MonthIn root.0 × MonthIn month.0 × PairIn pair.p pair.q × PlanStands left tables.now.nodes.now at × FinePlan tables.now.values.now (sign_of pair.p pair.q) (plan_at nat_of left tables.now.nodes.now at) (nat_of root.0) (nat_of month.0) }
+    ensures { result.0 ≡ pays (flat tables.now.values.now) (sign_of pair.p pair.q) (plan_at nat_of left tables.now.nodes.now at) (nat_of root.0) (nat_of month.0) }
 {
-    let letter = rows::letter(nodes, at);
+    let letter = nodes::plan_kind(tables.nodes, at);
     match letter {
         PlanLetter::Nothing => Pence(0),
-        PlanLetter::Transfer => transfer::transfer(nodes, root, month, pair, at),
+        PlanLetter::Transfer => transfer::transfer(tables.nodes, root, month, pair, at),
         PlanLetter::Scale => {
-            let x = plan_pays(
-                nodes,
-                values,
-                root,
-                month,
-                pair,
-                nodes::link(nodes, at, 3),
-                left - 1,
-            );
-            scale::scaled(nodes, values, root, at + 1, x)
+            let second = nodes::link(tables.nodes, at, 3);
+            let x = plan_pays(tables, root, month, pair, second, left - 1);
+            scale::scaled(tables, root, at + 1, x)
         }
         PlanLetter::Later => {
-            let next = integers::later(root, rows::delay(nodes, at));
-            plan_pays(nodes, values, next, month, pair, at + 1, left - 1)
+            let next = integers::later(root, nodes::delay(tables.nodes, at));
+            plan_pays(tables, next, month, pair, at + 1, left - 1)
         }
         PlanLetter::Both => {
-            let x = plan_pays(nodes, values, root, month, pair, at + 1, left - 1);
-            let y = plan_pays(
-                nodes,
-                values,
-                root,
-                month,
-                pair,
-                nodes::link(nodes, at, 3),
-                left - 1,
-            );
+            let x = plan_pays(tables, root, month, pair, at + 1, left - 1);
+            let second = nodes::link(tables.nodes, at, 3);
+            let y = plan_pays(tables, root, month, pair, second, left - 1);
             integers::plus(x, y)
         }
         PlanLetter::Within => {
-            let d = rows::delay(nodes, at);
-            let w = until::wait_until(nodes, values, root, month, d, at + 1);
-            match w {
-                Until::Held(k) => {
-                    plan_pays(
-                        nodes,
-                        values,
-                        k,
-                        month,
-                        pair,
-                        nodes::link(nodes, at, 3),
-                        left - 1,
-                    )
+            let d = nodes::delay(tables.nodes, at);
+            match until::wait_until(tables, root, month, d, at + 1) {
+                Some(Wait::Held(k)) => {
+                    let second = nodes::link(tables.nodes, at, 3);
+                    plan_pays(tables, k, month, pair, second, left - 1)
                 }
-                Until::Missed(k) => {
-                    plan_pays(
-                        nodes,
-                        values,
-                        k,
-                        month,
-                        pair,
-                        nodes::link(nodes, at, 4),
-                        left - 1,
-                    )
+                Some(Wait::Missed(k)) => {
+                    let third = nodes::link(tables.nodes, at, 4);
+                    plan_pays(tables, k, month, pair, third, left - 1)
                 }
-                Until::After => Pence(0),
+                None => Pence(0),
             }
         }
         PlanLetter::NoPlan => Pence(0),

@@ -8,18 +8,19 @@ ghost use Rattle.nodes.specs.Found.{amount_at, offset_of};
 ghost use Rattle.nodes.specs.Stands.{AmountStands};
 ghost use Rattle.nodes.specs.Table.{nat_of};
 
+use amounts::Tables;
 use integers::{Month, Pence};
 
 // Nothing of nothing: in most months a plan pays nothing, and its amounts need not be worked out.
-pub fn scaled(nodes: &&[i64], values: &&[i64], root: Month, at: usize, x: Pence) -> Pence
-    requires { MonthIn root.0 × AmountStands 512 nodes.now.now at × Fine values.now.now (nat_of root.0) (amount_at offset_of 512 nodes.now.now at)
-        × Small (value (flat values.now.now) (amount_at offset_of 512 nodes.now.now at) (nat_of root.0) *ℤ x.0) }
-    ensures { result.0 ≡ value (flat values.now.now) (amount_at offset_of 512 nodes.now.now at) (nat_of root.0) *ℤ x.0 }
+pub fn scaled(tables: &Tables, root: Month, at: usize, x: Pence) -> Pence
+    requires { MonthIn root.0 × AmountStands 512 tables.now.nodes.now at × Fine tables.now.values.now (nat_of root.0) (amount_at offset_of 512 tables.now.nodes.now at)
+        × Small (value (flat tables.now.values.now) (amount_at offset_of 512 tables.now.nodes.now at) (nat_of root.0) *ℤ x.0) }
+    ensures { result.0 ≡ value (flat tables.now.values.now) (amount_at offset_of 512 tables.now.nodes.now at) (nat_of root.0) *ℤ x.0 }
 {
     let pence = x.0;
     if pence == 0 {
         return Pence(0);
     }
-    let a = amounts::amount_value(nodes, values, root, at, 512);
+    let a = tables.amount_value(root, at, 512);
     integers::times(a, x)
 }

@@ -26,17 +26,17 @@ pub fn penny_between(a: i64, b: i64, pair: Pair) -> Pence
 }
 
 // One penny from the row's first party to its second.
-pub fn penny(nodes: &&[i64], at: usize, pair: Pair) -> Pence
-    requires { RowIn nodes.now.now at × PairIn pair.p pair.q }
-    ensures { result.0 ≡ sign_of pair.p pair.q (nat_of (slot_at nodes.now.now at 1)) (nat_of (slot_at nodes.now.now at 2)) }
+pub fn penny(nodes: &[i64], at: usize, pair: Pair) -> Pence
+    requires { RowIn nodes.now at × PairIn pair.p pair.q }
+    ensures { result.0 ≡ sign_of pair.p pair.q (nat_of (slot_at nodes.now at 1)) (nat_of (slot_at nodes.now at 2)) }
 {
     penny_between(nodes::slot(nodes, at, 1), nodes::slot(nodes, at, 2), pair)
 }
 
 // The penny in the month of the plan's root, else nothing.
-pub fn transfer(nodes: &&[i64], root: Month, month: Month, pair: Pair, at: usize) -> Pence
-    requires { RowIn nodes.now.now at × MonthIn root.0 × MonthIn month.0 × PairIn pair.p pair.q }
-    ensures { result.0 ≡ cond (eqb (nat_of root.0) (nat_of month.0)) (sign_of pair.p pair.q (nat_of (slot_at nodes.now.now at 1)) (nat_of (slot_at nodes.now.now at 2))) (pos 0) }
+pub fn transfer(nodes: &[i64], root: Month, month: Month, pair: Pair, at: usize) -> Pence
+    requires { RowIn nodes.now at × MonthIn root.0 × MonthIn month.0 × PairIn pair.p pair.q }
+    ensures { result.0 ≡ cond (eqb (nat_of root.0) (nat_of month.0)) (sign_of pair.p pair.q (nat_of (slot_at nodes.now at 1)) (nat_of (slot_at nodes.now at 2))) (pos 0) }
 {
     let r = root.0;
     let m = month.0;

@@ -7,58 +7,33 @@ ghost use Rattle.language.specs.Payments.Amounts.{holds};
 ghost use Rattle.nodes.specs.Found.{offset_of, test_at};
 ghost use Rattle.nodes.specs.Stands.{TestStands};
 ghost use Rattle.nodes.specs.Table.{nat_of};
-ghost use Rattle.pays.specs.Until.{UntilIs, until_of_short, until_of_whole};
+ghost use Rattle.pays.specs.Until.{UntilIs, until_of_short};
 
-use amounts::wait;
 use amounts::wait::Wait;
+use amounts::{Tables, wait};
 use integers::Month;
 
-// The wait ended, or it ends after the month.
-#[derive(Clone, Copy)]
-pub enum Until {
-    Held(Month),
-    Missed(Month),
-    After,
-}
-
-// Of a wait that was tried to its end.
-fn of_whole(w: Wait) -> Until
-    ensures { result ≡ until_of_whole w }
-{
-    match w {
-        Wait::Held(k) => Until::Held(k),
-        Wait::Missed(k) => Until::Missed(k),
-    }
-}
-
-// Of one that was tried up to the month only.
-fn of_short(w: Wait) -> Until
+// Of a wait that was tried up to the month only: a miss there is none yet.
+fn of_short(w: Wait) -> Option<Wait>
     ensures { result ≡ until_of_short w }
 {
     match w {
-        Wait::Held(k) => Until::Held(k),
-        Wait::Missed(_) => Until::After,
+        Wait::Held(k) => Some(Wait::Held(k)),
+        Wait::Missed(_) => None,
     }
 }
 
-// The test at a node, tried from month `root` on for d months, but not after `month`.
-pub fn wait_until(
-    nodes: &&[i64],
-    values: &&[i64],
-    root: Month,
-    month: Month,
-    d: Month,
-    at: usize,
-) -> Until
-    requires { MonthsIn root.0 d.0 × MonthIn month.0 × TestStands 512 nodes.now.now at × FineMonths values.now.now (nat_of root.0) (nat_of d.0) (test_at offset_of 512 nodes.now.now at) }
-    ensures { UntilIs (holds (flat values.now.now) (test_at offset_of 512 nodes.now.now at)) (nat_of d.0) (nat_of root.0) (nat_of month.0) result }
+// The test at a node, tried from month `root` on for d months, but not after `month`; none where the wait ends after it.
+pub fn wait_until(tables: &Tables, root: Month, month: Month, d: Month, at: usize) -> Option<Wait>
+    requires { MonthsIn root.0 d.0 × MonthIn month.0 × TestStands 512 tables.now.nodes.now at × FineMonths tables.now.values.now (nat_of root.0) (nat_of d.0) (test_at offset_of 512 tables.now.nodes.now at) }
+    ensures { UntilIs (holds (flat tables.now.values.now) (test_at offset_of 512 tables.now.nodes.now at)) (nat_of d.0) (nat_of root.0) (nat_of month.0) result }
 {
     if month.0 < root.0 {
-        return Until::After;
+        return None;
     }
     let rest = wait::between(root, month);
     if rest.0 < d.0 {
-        return of_short(wait::wait_for(nodes, values, root, rest, at, 512));
+        return of_short(tables.wait_for(root, rest, at, 512));
     }
-    of_whole(wait::wait_for(nodes, values, root, d, at, 512))
+    Some(tables.wait_for(root, d, at, 512))
 }

@@ -51,11 +51,7 @@ pub fn place_rows(nodes: &mut [i64], count: usize, span: Span)
     requires { (5 * count ≤ length nodes.old) × SpanIn span.h span.f × (all_rows row_in count nodes.old ≡ true) }
     ensures { nodes.new ≡ map_rows (placed_row span.h span.f) count nodes.old }
 {
-    let mut i = 0;
-    let mut at = 0;
-    while i < count {
-        place_row(nodes, at, span);
-        i += 1;
-        at += 5;
+    for i in 0..count {
+        place_row(nodes, 5 * i, span);
     }
 }

@@ -58,12 +58,8 @@ fn copy_bytes(out: &mut [u8], from: usize, to: usize, n: usize) -> usize
     requires { (from + n ≤ to) × (to + n ≤ length out.old) }
     ensures { Put out.old out.new to result (take n (drop from out.old)) }
 {
-    let mut i = 0;
-    while i < n {
-        let b = out[from + i];
-        out[to + i] = b;
-        i += 1;
-    }
+    let (front, back) = out.split_at_mut(to);
+    back[..n].copy_from_slice(&front[from..from + n]);
     to + n
 }
 

@@ -9,20 +9,16 @@ ghost use Rattle.writer.specs.Put.{Put};
 
 mod again;
 
-use writer::{Written, digits, parts};
+use writer::{NoRoom, digits, parts};
 
 // Writes a word.
 fn put_word(word: &[u8], out: &mut [u8], at: usize) -> usize
     requires { at + length word.now ≤ length out.old }
     ensures { Put out.old out.new at result word.now }
 {
-    let mut i = 0;
-    while i < word.len() {
-        let b = word[i];
-        out[at + i] = b;
-        i += 1;
-    }
-    at + i
+    let end = at + word.len();
+    out[at..end].copy_from_slice(word);
+    end
 }
 
 // The bytes of a month's line.
@@ -93,10 +89,8 @@ fn months_length(column: &[i64], rest: &[i64], months: usize) -> usize
     ensures { (result ≡ length (months_text column.now rest.now 0 months)) × (result ≤ 43_000) }
 {
     let mut sum = 0;
-    let mut m = 0;
-    while m < months {
+    for m in 0..months {
         sum += month_length(column, rest, m);
-        m += 1;
     }
     sum
 }
@@ -115,14 +109,12 @@ fn put_months(
 {
     let mut place = at;
     let mut mark = at;
-    let mut m = 0;
     let mut hundreds = 0u32;
     let mut over = 0u32;
-    while m < months {
+    for m in 0..months {
         let line = put_month(pairs, column, rest, m, hundreds, over, out, place, mark);
         place = line.next;
         mark = line.mark;
-        m += 1;
         over += 1;
         if over == 100 {
             over = 0;
@@ -172,7 +164,7 @@ pub fn write_answer(
     rest: &[i64],
     months: usize,
     out: &mut [u8],
-) -> Written
+) -> Result<usize, NoRoom>
     requires { (2 ≤ length head.now) × (months ≤ length column.now) × (months ≤ length rest.now) × (months ≤ 601) }
     ensures { (out.new ≡ (answer_call head.now column.now rest.now months out.old).buffer)
         × (written_answer result ≡ (answer_call head.now column.now rest.now months out.old).answer) }
@@ -180,15 +172,15 @@ pub fn write_answer(
     // where the longest lines fit, nothing is counted
     if 60 + 70 * months <= out.len() {
         let end = put_answer(head, column, rest, months, out);
-        return Written::Bytes(end);
+        return Ok(end);
     }
     let first = head_length(head);
     let need = first + months_length(column, rest, months);
     if out.len() < need {
-        Written::NoRoom
+        Err(NoRoom)
     } else {
         let end = put_answer(head, column, rest, months, out);
-        Written::Bytes(end)
+        Ok(end)
     }
 }
 
@@ -204,16 +196,16 @@ fn put_refusal(number: &[i64], out: &mut [u8]) -> usize
 }
 
 // The line of a refused sheet into `out`, or no byte of it where it does not fit.
-pub fn write_refusal(number: &[i64], out: &mut [u8]) -> Written
+pub fn write_refusal(number: &[i64], out: &mut [u8]) -> Result<usize, NoRoom>
     requires { 1 ≤ length number.now }
     ensures { (out.new ≡ (refusal_call number.now out.old).buffer)
         × (written_answer result ≡ (refusal_call number.now out.old).answer) }
 {
     let need = digits::number_length(number, 0) + 9;
     if out.len() < need {
-        Written::NoRoom
+        Err(NoRoom)
     } else {
         let end = put_refusal(number, out);
-        Written::Bytes(end)
+        Ok(end)
     }
 }

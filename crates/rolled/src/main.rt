@@ -2,6 +2,8 @@
 #![tactic(auto)]
 
 use payments::Stepping;
+use tables::Span;
+use tables::given::Given;
 
 fn print_pence(pence: i64) {
     if pence < 0 {
@@ -27,25 +29,20 @@ fn print_refused(number: u8) {
 // The step of the plan in the first bytes of `held`, printed; how many bytes of `out` are the plan for tomorrow.
 fn roll(held: &[u8], bytes: usize, today: i64, out: &mut [u8]) -> usize {
     let n = outputs::within(bytes, held);
-    let stepping = payments::step(
-        &held[..n],
-        &[2],
-        0,
-        2,
-        &[1000000, 990000, 980000],
-        &[200],
-        &[90, 100, 130],
-        today,
-        1,
-        2,
-        out,
-    );
+    let given = Given {
+        days: &[2],
+        span: Span { h: 0, f: 2 },
+        factors: &[1000000, 990000, 980000],
+        bounds: &[200],
+        values: &[90, 100, 130],
+    };
+    let stepping = payments::step(&held[..n], &given, today, 1, 2, out);
     match stepping {
-        Stepping::Stepped(pence, m) => {
+        Ok(Stepping { pence, bytes: m }) => {
             print_step(pence.0, out, m);
             m
         }
-        Stepping::Refused(refusal) => {
+        Err(refusal) => {
             print_refused(text::number_of(refusal));
             0
         }

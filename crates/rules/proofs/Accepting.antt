@@ -3,7 +3,6 @@ use Prim.Native.Nat.{◌+◌, ◌≤◌, ℕ}
 use borrow.Author.Tests.{leb-true}
 use lib.Dec.{T, leb}
 use lib.IntN.{nat_abs, negsuc, pos, ℤ}
-use lib.ListN.{length}
 use lib.Signed.{non_neg}
 use mathlib.Core.Bool.{Bool, ◌&&◌, false, true}
 use mathlib.Core.List.{List, []}
@@ -28,19 +27,17 @@ use Rattle.nodes.specs.Found.{plan_at}
 use Rattle.nodes.specs.Table.{nat_of}
 use Rattle.rules.proofs.Filling.{closed_set, fill_formed, set_is, stands_closed, stands_filled, walked}
 use Rattle.rules.specs.Accepting.{AcceptIs, accepting}
-use Rattle.rules.specs.Answers.{Natural, checking_answer, given_of}
+use Rattle.rules.specs.Answers.{Natural, checking_answer}
 use Rattle.rules.specs.Measured.{InTable, checked_of, measured_by}
 use Rattle.rules.specs.Quick.{QuickIs}
-use Rattle.rules.specs.declared.Checking.{Checking}
 use Rattle.rules.specs.Standing.{Standing, Stands}
-use Rattle.rules.specs.declared.Checking.TheVariants.{Accepted, Refused}
-use Rattle.rules.specs.declared.Quick.TheVariants.{Kept}
 use Rattle.tables.proofs.Spans.{UpTo, bounds_hold, both_true, span_holds}
 use Rattle.tables.specs.Fill.{FillIs}
-use Rattle.tables.specs.Given.{table_of}
-use Rattle.tables.specs.declared.fill.Filling.TheVariants.{Filled}
+use Rattle.tables.specs.Given.{given_of, table_of}
 use Rattle.text.specs.declared.Refusal.{Refusal}
 use Rattle.text.specs.declared.Refusal.TheVariants.{Caller, Settings, Table}
+use Rattle.std.specs.Prelude.{Err, Ok, Result, Some}
+use Rattle.rules.specs.declared.Accepted.{Accepted}
 
 -- a month of the table is not below zero
 in-months : (f m : ℤ) → between (pos 0) f m ≡ true → T (non_neg m) × (nat_of m ≡ nat_abs m)
@@ -74,21 +71,21 @@ module _ (days : List ℤ) (h f : ℤ) (factors bounds values : List ℤ) (today
   abbrev y : Plan ℕ
   y = fill (setting_at days) x
 
-  pub no_table : is_table g.table ≡ false → checking_answer (Refused Table) ≡ accepting g today ok x
+  pub no_table : is_table g.table ≡ false → checking_answer (Err Table) ≡ accepting g today ok x
   unfolding accept_plan checking_answer
   no_table e = rw e refl
 
   module _ (t : is_table g.table ≡ true) where
-    pub no_caller : is_month g.table today && ok ≡ false → checking_answer (Refused Caller) ≡ accepting g today ok x
+    pub no_caller : is_month g.table today && ok ≡ false → checking_answer (Err Caller) ≡ accepting g today ok x
     unfolding accept_plan checking_answer
     no_caller e = rw (t, e) refl
 
     module _ (m : is_month g.table today && ok ≡ true) where
-      pub bad_settings : are_settings days ≡ false → checking_answer (Refused Settings) ≡ accepting g today ok x
+      pub bad_settings : are_settings days ≡ false → checking_answer (Err Settings) ≡ accepting g today ok x
       unfolding accept_plan checking_answer
       bad_settings e = rw (t, m, e) refl
 
-      pub unset : are_settings days ≡ true → all_are_set days x ≡ false → checking_answer (Refused Settings) ≡ accepting g today ok x
+      pub unset : are_settings days ≡ true → all_are_set days x ≡ false → checking_answer (Err Settings) ≡ accepting g today ok x
       unfolding accept_plan checking_answer
       unset e s = rw (t, m, e, s) refl
 
@@ -109,36 +106,36 @@ module _ (days : List ℤ) (h f : ℤ) (factors bounds values : List ℤ) (today
   in_table t m = in_span (span_holds h f factors bounds values t) m (record { within = truth _ (bounds_hold h f factors bounds values t) })
 
 -- a refusal leaves nothing to be said of the table
-never_both : {A : Type 0} (k : Refusal) {l : Month} {m : Pence} → Refused k ≡ Accepted l m → A
+never_both : {A : Type 0} (k : Refusal) {plan : Accepted} → ◌≡◌ {A = Result Accepted Refusal} (Err k) (Ok plan) → A
 never_both k e = let z : ◌≡◌ {A = ℕ} 0 1 = cc in absurd (omega arith)
 
 module _ (g : Given) (today : ℤ) (ok : Bool) (count : ℕ) (before after : List ℤ) where
-  pub refused_is : (k : Refusal) → ((x : Plan Delay) → Standing before count x → checking_answer (Refused k) ≡ accepting g today ok x) → AcceptIs g today ok count before after (Refused k)
-  refused_is k h = record { answer = h; filled = λ l m e x s. never_both k e; natural = tt }
+  pub refused_is : (k : Refusal) → ((x : Plan Delay) → Standing before count x → checking_answer (Err k) ≡ accepting g today ok x) → AcceptIs g today ok count before after (Err k)
+  refused_is k h = record { answer = h; filled = λ plan e x s. never_both k e; natural = tt }
 
 -- the rules were gone through, and each plan stands filled in the table
 module _ (days : List ℤ) (h f : ℤ) (factors bounds values : List ℤ) (today : ℤ) (ok : Bool) (count : ℕ) (before after : List ℤ)
     (t : is_table (table_of h f factors bounds values) ≡ true) (m : is_month (table_of h f factors bounds values) today && ok ≡ true) (e : are_settings days ≡ true) where
   accept_stands : ((x : Plan Delay) → Standing before count x → (all_are_set days x ≡ true) × Standing after count (closed (fill (setting_at days) x)))
-      → {r : Checking} → checking_answer r ≡ measured_by h f bounds (nat_of today) (plan_at nat_of 32 after 0) → Natural r → AcceptIs (given_of days h f factors bounds values) today ok count before after r
+      → {r : Result Accepted Refusal} → checking_answer r ≡ measured_by h f bounds (nat_of today) (plan_at nat_of 32 after 0) → Natural r → AcceptIs (given_of days h f factors bounds values) today ok count before after r
   accept_stands u a z = record {
     answer = λ x s.
         a ∙ ap (measured_by h f bounds (nat_of today)) (walked (fill (setting_at days) x) (u x s).1 (fill_formed s days e)).is
         ∙ by_rules days h f factors bounds values today ok x t m e (u x s).0 (in-months f today (both_true (is_month (table_of h f factors bounds values) today) ok m).0).1;
-    filled = λ l n q x s. (u x s).1;
+    filled = λ plan q x s. (u x s).1;
     natural = z;
   }
 
   -- the table was filled
-  module _ (filled : FillIs days count before after Filled) where
+  module _ (filled : FillIs days count before after (Ok _)) where
     pub measure_ready : (p : Stands before count) → PlanReady 32 after 0
     measure_ready p = (walked (fill (setting_at days) p.plan) (stands_filled p.standing days e filled.1) (fill_formed p.standing days e)).safe
 
-    pub accept_is : {r : Checking} → checking_answer r ≡ measured_by h f bounds (nat_of today) (plan_at nat_of 32 after 0) → Natural r → AcceptIs (given_of days h f factors bounds values) today ok count before after r
+    pub accept_is : {r : Result Accepted Refusal} → checking_answer r ≡ measured_by h f bounds (nat_of today) (plan_at nat_of 32 after 0) → Natural r → AcceptIs (given_of days h f factors bounds values) today ok count before after r
     accept_is = accept_stands (λ x s. (sym (set_is s days) ∙ filled.0, stands_filled s days e filled.1))
 
 -- nothing was to be filled
 module _ (days : List ℤ) (h f : ℤ) (factors bounds values : List ℤ) (today : ℤ) (ok : Bool) (count : ℕ) (nodes : List ℤ)
     (t : is_table (table_of h f factors bounds values) ≡ true) (m : is_month (table_of h f factors bounds values) today && ok ≡ true) (e : are_settings days ≡ true) where
-  pub accept_kept : (l : Month) (p : Pence) → QuickIs h f bounds (nat_of today) nodes (Kept l p) → AcceptIs (given_of days h f factors bounds values) today ok count nodes nodes (Accepted l p)
-  accept_kept l p k = accept_stands days h f factors bounds values today ok count nodes nodes t m e (λ x s. (closed_set s k.2 days, stands_closed s k.2 days)) k.0 k.1
+  pub accept_kept : (plan : Accepted) → QuickIs h f bounds (nat_of today) nodes (Some plan) → AcceptIs (given_of days h f factors bounds values) today ok count nodes nodes (Ok plan)
+  accept_kept plan k = accept_stands days h f factors bounds values today ok count nodes nodes t m e (λ x s. (closed_set s k.2 days, stands_closed s k.2 days)) k.0 k.1

@@ -14,11 +14,11 @@ use Rattle.nodes.specs.Rows.{count_of, rows}
 use Rattle.rules.specs.Accepting.{AcceptIs}
 use Rattle.rules.specs.Answers.{Natural, checking_answer}
 use Rattle.rules.specs.Standing.{Standing, Stands}
-use Rattle.rules.specs.declared.Checking.{Checking}
-use Rattle.rules.specs.declared.Checking.TheVariants.{Refused}
 use Rattle.text.specs.ReadInto as read
 use Rattle.text.specs.Refusals.{number_of}
 use Rattle.text.specs.declared.Refusal.{Refusal}
+use Rattle.std.specs.Prelude.{Err, Result}
+use Rattle.rules.specs.declared.Accepted.{Accepted}
 
 module _ (text : List ℕ) where
   module _ (nodes : List ℤ) (n : ℕ) (s : read.Stands plan_form (text_as_read plan_form text) nodes n) where
@@ -31,10 +31,10 @@ module _ (text : List ℕ) where
     pub read_stands : Stands nodes n
     read_stands = record { plan = plan.plan; standing = read_standing }
 
-    pub check_accepts : (g : Given) (today : ℤ) {after : List ℤ} {r : Checking} → AcceptIs g today true n nodes after r → (checking_answer r ≡ check_call text g today) × Natural r
+    pub check_accepts : (g : Given) (today : ℤ) {after : List ℤ} {r : Result Accepted Refusal} → AcceptIs g today true n nodes after r → (checking_answer r ≡ check_call text g today) × Natural r
     unfolding check_call
     check_accepts g today h = (h.answer plan.plan read_standing ∙ rw plan.is refl, h.natural)
 
-  pub check_refuses : (g : Given) (today : ℤ) (k : Refusal) → text_as_read plan_form text ≡ refused (number_of k) → (checking_answer (Refused k) ≡ check_call text g today) × Natural (Refused k)
+  pub check_refuses : (g : Given) (today : ℤ) (k : Refusal) → text_as_read plan_form text ≡ refused (number_of k) → (checking_answer (Err k) ≡ check_call text g today) × Natural (Err k)
   unfolding check_call read_plan checking_answer
   check_refuses g today k e = (rw e refl, tt)

@@ -34,10 +34,10 @@ use Rattle.measures.specs.Sure.{Sure}
 use Rattle.nodes.specs.Table.{nat_of}
 use Rattle.rules.specs.Answers.{Natural, checking_answer}
 use Rattle.rules.specs.Measured.{InTable, measured_by}
-use Rattle.rules.specs.declared.Checking.TheVariants.{Accepted, Refused}
 use Rattle.tables.specs.Given.{table_of}
 use Rattle.tables.specs.declared.Span.{Span}
 use Rattle.text.specs.declared.Refusal.TheVariants.{Length, Magnitude, NotInTime, Reads}
+use Rattle.std.specs.Prelude.{Err, Ok}
 
 -- a month that is not below zero
 from_zero : (z : ℤ) → T (non_neg z) → z ≡ pos (nat_of z)
@@ -149,21 +149,21 @@ module _ (today : ℤ) (s : Span) (bounds : List ℤ) (x : Plan ℕ) (h : InTabl
         el ∙ ap₂ ◌-ℤ◌ k.length (plain_read {m = r % 1024} (omega arith))
         ∙ ring (lit (length_of x + r % 1024) ⊖ lit (r % 1024)) (lit (length_of x)) (omega arith)
 
-    pub all_kept : (l : Month) → l.0 ≡ high -ℤ to_z w64 (r % 1024) → (p : Pence) → p.0 ≡ pos (r / 1024) → (checking_answer (Accepted l p) ≡ answer) × Natural (Accepted l p)
+    pub all_kept : (l : Month) → l.0 ≡ high -ℤ to_z w64 (r % 1024) → (p : Pence) → p.0 ≡ pos (r / 1024) → (checking_answer (Ok (record { length = l; magnitude = p })) ≡ answer) × Natural (Ok (record { length = l; magnitude = p }))
     unfolding checking_answer meets_rules
     all_kept l el p ep = rw (ended, k.reads, k.known, k.small) (rw (lasting el, ep, k.magnitude) (refl, (tt, tt)))
 
-  pub too_long : (l : ℤ) → l ≡ pos (length_of x) → lt_z s.f (today +ℤ l) ≡ true → checking_answer (Refused Length) ≡ answer
+  pub too_long : (l : ℤ) → l ≡ pos (length_of x) → lt_z s.f (today +ℤ l) ≡ true → checking_answer (Err Length) ≡ answer
   unfolding checking_answer meets_rules
   too_long l e c = rw (beyond_f l e c) refl
 
   module _ (l : Month) (e : l.0 ≡ pos (length_of x)) (c : lt_z s.f (today +ℤ l.0) ≡ false) where
-    pub unread : {b : Bool} → b ≡ plan_reads table (nat_of today) (nat_of today) x → b ≡ false → checking_answer (Refused Reads) ≡ answer
+    pub unread : {b : Bool} → b ≡ plan_reads table (nat_of today) (nat_of today) x → b ≡ false → checking_answer (Err Reads) ≡ answer
     unfolding checking_answer meets_rules
     unread r q = rw (within_f l.0 e c, sym r ∙ q) refl
 
     module _ {b : Bool} (r : b ≡ plan_reads table (nat_of today) (nat_of today) x) (q : b ≡ true) where
-      pub late : {k : Bool} → k ≡ known_in_time x → k ≡ false → checking_answer (Refused NotInTime) ≡ answer
+      pub late : {k : Bool} → k ≡ known_in_time x → k ≡ false → checking_answer (Err NotInTime) ≡ answer
       unfolding checking_answer meets_rules
       late n o = rw (within_f l.0 e c, sym r ∙ q, sym n ∙ o) refl
 
@@ -171,13 +171,13 @@ module _ (today : ℤ) (s : Span) (bounds : List ℤ) (x : Plan ℕ) (h : InTabl
         is_small : {m : ℕ} → m ≡ measured_plan (bound_in bounds) x → (v : Bool) → leb m max_amount ≡ v → plan_small (bound_in bounds) x ≡ v
         is_small d v w = sym (plan_within (bound_in bounds) x d) ∙ w
 
-        pub accepted : {m : ℕ} → m ≡ measured_plan (bound_in bounds) x → leb m max_amount ≡ true → (p : Pence) → p.0 ≡ pos m → (checking_answer (Accepted l p) ≡ answer) × Natural (Accepted l p)
+        pub accepted : {m : ℕ} → m ≡ measured_plan (bound_in bounds) x → leb m max_amount ≡ true → (p : Pence) → p.0 ≡ pos m → (checking_answer (Ok (record { length = l; magnitude = p })) ≡ answer) × Natural (Ok (record { length = l; magnitude = p }))
         unfolding checking_answer meets_rules
         accepted {m} d w p g =
             let y = is_small d true w in
             let z : m ≡ magnitude_of (bound_in bounds) x = rw y at d in
             rw (within_f l.0 e c, sym r ∙ q, sym n ∙ o, y) (rw (e, g, z) (refl, (tt, tt)))
 
-        pub too_great : {m : ℕ} → m ≡ measured_plan (bound_in bounds) x → leb m max_amount ≡ false → checking_answer (Refused Magnitude) ≡ answer
+        pub too_great : {m : ℕ} → m ≡ measured_plan (bound_in bounds) x → leb m max_amount ≡ false → checking_answer (Err Magnitude) ≡ answer
         unfolding checking_answer meets_rules
         too_great d w = rw (within_f l.0 e c, sym r ∙ q, sym n ∙ o, is_small d false w) refl

@@ -30,11 +30,9 @@ use Rattle.nodes.specs.Table.{nat_of}
 use Rattle.settling.proofs.SettingSums.{months_small, no_settings}
 use Rattle.settling.specs.Settle.{MonthIs, RowIs, is_await, holds_index, is_leaf, month_in, month_settled, row_in, row_settled, settle_month, settle_row}
 use Rattle.settling.specs.Sums.{SumIs}
-use Rattle.settling.specs.declared.sums.Summed.{Summed}
-use Rattle.settling.specs.declared.sums.Summed.TheVariants as summed
 use Rattle.tables.specs.Fill.{SlotIs, fill_delay}
-use Rattle.tables.specs.declared.fill.Filling.{Filling}
-use Rattle.tables.specs.declared.fill.Filling.TheVariants.{Filled, Unset}
+use Rattle.std.specs.Prelude.{Err, Ok, Result}
+use Rattle.tables.specs.declared.fill.Unset.{Unset}
 
 -- ---- a month of number p and digits d
 module _ (days : List ℤ) (ok : are_settings days ≡ true) (p d : ℤ) (m : month_in p d ≡ true) (fp : SFits w64 p) (fd : SFits w64 d) where
@@ -48,12 +46,12 @@ module _ (days : List ℤ) (ok : are_settings days ≡ true) (p d : ℤ) (m : mo
   digits_cast = index_cast d d fd refl known
 
   -- the sum as the code asks for it
-  pub as_digits : (r : Summed) → SumIs days (settings_in (nat_abs (rd d))) r → SumIs days (settings_in (nat_of d)) r
+  pub as_digits : (r : Result ℕ Unset) → SumIs days (settings_in (nat_abs (rd d))) r → SumIs days (settings_in (nat_of d)) r
   as_digits r h = subst (λ n. SumIs days (settings_in n) r) (index_reads d d fd refl known) h
 
-  module _ (n : ℕ) (h : SumIs days (settings_in (nat_abs (rd d))) (summed.Months n)) where
+  module _ (n : ℕ) (h : SumIs days (settings_in (nat_abs (rd d))) (Ok n)) where
     few : n ≤ 148_800
-    few = omega (arith, (as_digits (summed.Months n) h).1, months_small days ok (nat_of d))
+    few = omega (arith, (as_digits (Ok n) h).1, months_small days ok (nat_of d))
 
     pub sum_fits : SFits w64 (pos n)
     sum_fits = sfits64 148_800 few tt
@@ -66,7 +64,7 @@ module _ (days : List ℤ) (ok : are_settings days ≡ true) (p d : ℤ) (m : mo
 
     pub month_is : rd (rd p +ℤ to_z w64 n) ≡ month_of (setting_at days) (month_from p d)
     unfolding month_of
-    month_is = rw (to_z-of_z fp, to_z-of_z sum_fits) (to_z-of_z whole_fits ∙ ap (λ k. p +ℤ pos k) (as_digits (summed.Months n) h).1)
+    month_is = rw (to_z-of_z fp, to_z-of_z sum_fits) (to_z-of_z whole_fits ∙ ap (λ k. p +ℤ pos k) (as_digits (Ok n) h).1)
 
 -- ---- the month at number `at` of the table
 module _ (days nodes : List ℤ) (at : ℕ) where
@@ -76,13 +74,13 @@ module _ (days nodes : List ℤ) (at : ℕ) where
   abbrev digits : ℤ
   digits = get_or nodes (at + 1) (pos 0)
 
-  pub month_filled : (n : ℕ) → SumIs days (settings_in (nat_of digits)) (summed.Months n) → (v : ℤ) → v ≡ month_of (setting_at days) (month_from plain digits)
-      → MonthIs days at nodes (set (set nodes at v) (at + 1) (pos 0)) Filled
+  pub month_filled : (n : ℕ) → SumIs days (settings_in (nat_of digits)) (Ok n) → (v : ℤ) → v ≡ month_of (setting_at days) (month_from plain digits)
+      → MonthIs days at nodes (set (set nodes at v) (at + 1) (pos 0)) (Ok _)
   unfolding month_settled settle_month
   month_filled n h v e = (h.0, ap (λ z. set (set nodes at z) (at + 1) (pos 0)) e)
 
   -- a month without settings stays as it is
-  pub month_kept : digits ≡ pos 0 → MonthIs days at nodes nodes Filled
+  pub month_kept : digits ≡ pos 0 → MonthIs days at nodes nodes (Ok _)
   unfolding month_settled settle_month month_of settings_sum
   month_kept e =
       let none : settings_in (nat_of digits) ≡ [] = ap (λ d. settings_in (nat_of d)) e ∙ no_settings 8 0 in
@@ -91,7 +89,7 @@ module _ (days nodes : List ℤ) (at : ℕ) where
         sym (ap₂ (λ v d. set (set nodes at v) (at + 1) d) same (sym e) ∙ ap (λ xs. set xs (at + 1) digits) (set-get_or nodes at (pos 0)) ∙ set-get_or nodes (at + 1) (pos 0)),
       )
 
-  pub month_unset : SumIs days (settings_in (nat_of digits)) summed.Unset → MonthIs days at nodes nodes Unset
+  pub month_unset : SumIs days (settings_in (nat_of digits)) (Err _) → MonthIs days at nodes nodes (Err _)
   unfolding month_settled
   month_unset h = h
 
@@ -182,9 +180,9 @@ module _ (days : List ℤ) (at : ℕ) (nodes : List ℤ) where
         ∙ again at nodes room (set row k v) five (set (set row k v) (k + 1) (pos 0)))
 
     row_month : at + 5 ≤ length nodes → settle_row days row ≡ settle_month days k row → row_settled days row ≡ month_settled days k row
-        → (after : List ℤ) (r : Filling) → MonthIs days (at + k) nodes after r → RowIs days at nodes after r
-    row_month room f p after Filled h = (p ∙ settled_in ∙ h.0, h.1 ∙ month_in_row room ∙ ap (λ x. with_row at x nodes) (sym f))
-    row_month room f p after Unset h = p ∙ settled_in ∙ h
+        → (after : List ℤ) (r : Result Unit Unset) → MonthIs days (at + k) nodes after r → RowIs days at nodes after r
+    row_month room f p after (Ok _) h = (p ∙ settled_in ∙ h.0, h.1 ∙ month_in_row room ∙ ap (λ x. with_row at x nodes) (sym f))
+    row_month room f p after (Err _) h = p ∙ settled_in ∙ h
 
   -- ---- by the letter z
   module _ (z : ℤ) (e : get_or nodes at (pos 0) ≡ z) where
@@ -193,7 +191,7 @@ module _ (days : List ℤ) (at : ℕ) (nodes : List ℤ) where
       unfolding row_in
       index_in h = rw (← plain_in 2 (omega arith), ← digits_in 2 (omega arith)) (rw (letter_is e, o) at h)
 
-      pub index_row : at + 5 ≤ length nodes → (after : List ℤ) (r : Filling) → MonthIs days (at + 2) nodes after r → RowIs days at nodes after r
+      pub index_row : at + 5 ≤ length nodes → (after : List ℤ) (r : Result Unit Unset) → MonthIs days (at + 2) nodes after r → RowIs days at nodes after r
       unfolding settle_row row_settled
       index_row room = row_month 2 (omega arith) room (rw (letter_is e, o) refl) (rw (letter_is e, o) refl)
 
@@ -202,19 +200,19 @@ module _ (days : List ℤ) (at : ℕ) (nodes : List ℤ) where
       unfolding row_in
       leaf_in h = rw (← plain_in 1 (omega arith), ← digits_in 1 (omega arith)) (rw (letter_is e, o, k) at h)
 
-      pub leaf_row : at + 5 ≤ length nodes → (after : List ℤ) (r : Filling) → MonthIs days (at + 1) nodes after r → RowIs days at nodes after r
+      pub leaf_row : at + 5 ≤ length nodes → (after : List ℤ) (r : Result Unit Unset) → MonthIs days (at + 1) nodes after r → RowIs days at nodes after r
       unfolding settle_row row_settled
       leaf_row room = row_month 1 (omega arith) room (rw (letter_is e, o, k) refl) (rw (letter_is e, o, k) refl)
 
     module _ (o : eq_z z (pos (byte "O")) ≡ false) (k : eq_z z (pos (byte "F")) || eq_z z (pos (byte "H")) ≡ false) where
-      pub await_row : eq_z z (pos (byte "W")) ≡ true → at + 5 ≤ length nodes → (after : List ℤ) (r : Filling) → SlotIs days (at + 1) nodes after r → RowIs days at nodes after r
+      pub await_row : eq_z z (pos (byte "W")) ≡ true → at + 5 ≤ length nodes → (after : List ℤ) (r : Result Unit Unset) → SlotIs days (at + 1) nodes after r → RowIs days at nodes after r
       unfolding settle_row row_settled
-      await_row w room after Filled h = (
+      await_row w room after (Ok _) h = (
         rw (letter_is e, o, k, w, in_row 1 (omega arith)) h.0,
         h.1 ∙ set_in_row at 1 (fill_delay days (get_or nodes (at + 1) (pos 0))) nodes (omega arith) room ∙ rw (letter_is e, o, k, w, in_row 1 (omega arith)) refl,
       )
-      await_row w room after Unset h = rw (letter_is e, o, k, w, in_row 1 (omega arith)) h
+      await_row w room after (Err _) h = rw (letter_is e, o, k, w, in_row 1 (omega arith)) h
 
-      pub other_row : eq_z z (pos (byte "W")) ≡ false → RowIs days at nodes nodes Filled
+      pub other_row : eq_z z (pos (byte "W")) ≡ false → RowIs days at nodes nodes (Ok _)
       unfolding settle_row row_settled
       other_row w = (rw (letter_is e, o, k, w) refl, row_kept at nodes ∙ rw (letter_is e, o, k, w) refl)

@@ -15,7 +15,7 @@ use Rattle.language.specs.Rules.Table.{all_of, is_set, setting_at, are_settings}
 use Rattle.nodes.proofs.TreePasses.{and_assoc}
 use Rattle.nodes.specs.Rows.{settings_from, settings_in}
 use Rattle.settling.specs.Sums.{SumIs}
-use Rattle.settling.specs.declared.sums.Summed.TheVariants.{Months, Unset}
+use Rattle.std.specs.Prelude.{Err, Ok}
 
 -- ---- lists put together
 all_append : (p : ℕ → Bool) (xs ys : List ℕ) → all_of p (xs ++ ys) ≡ all_of p xs && all_of p ys
@@ -59,14 +59,14 @@ sum_same σ zero k = omega arith
 sum_same σ (suc n) k = omega (arith, sum_same σ n k, suc-mul n (σ k))
 
 module _ (days : List ℤ) where
-  pub no_term : (n k : ℕ) → n ≡ 0 → SumIs days (replicate n k) (Months 0)
+  pub no_term : (n k : ℕ) → n ≡ 0 → SumIs days (replicate n k) (Ok 0)
   unfolding settings_sum
   no_term n k e = rw e (refl, refl)
 
-  pub set_term : (n k : ℕ) → k < length days → (m : ℕ) → m ≡ nat_abs (get_or days k (pos 0)) → SumIs days (replicate n k) (Months (n * m))
+  pub set_term : (n k : ℕ) → k < length days → (m : ℕ) → m ≡ nat_abs (get_or days k (pos 0)) → SumIs days (replicate n k) (Ok (n * m))
   set_term n k h m e = (all_same (is_set days) n k (lt-ltb k (length days) h), ap (λ x. n * x) e ∙ sym (sum_same (setting_at days) n k))
 
-  pub unset_term : (n k : ℕ) → (n ≡ 0 → ⊥) → length days ≤ k → SumIs days (replicate n k) Unset
+  pub unset_term : (n k : ℕ) → (n ≡ 0 → ⊥) → length days ≤ k → SumIs days (replicate n k) (Err _)
   unset_term zero k e h = absurd (e refl)
   unset_term (suc n) k e h = rw (le-ltb k (length days) h) refl
 
@@ -88,10 +88,10 @@ module _ (days : List ℤ) where
     unfolding settings_from
     next_digit = let n : 8 - k ≡ suc (8 - (k + 1)) = omega arith in rw (n, add-one) refl
 
-    pub summing_stop : SumIs days (replicate (rest % 32) k) Unset → SumIs days (settings_in digits) Unset
+    pub summing_stop : SumIs days (replicate (rest % 32) k) (Err _) → SumIs days (settings_in digits) (Err _)
     summing_stop h = s.settled ∙ ap (all_of (is_set days)) next_digit ∙ all_append (is_set days) (replicate (rest % 32) k) (settings_from (8 - (k + 1)) (k + 1) (rest / 32)) ∙ rw h refl
 
-    module _ (ok : are_settings days ≡ true) (n : ℕ) (h : SumIs days (replicate (rest % 32) k) (Months n)) where
+    module _ (ok : are_settings days ≡ true) (n : ℕ) (h : SumIs days (replicate (rest % 32) k) (Ok n)) where
       pub next_small : n ≤ 18_600
       next_small = let c : rest % 32 < 32 = omega arith in omega (arith, h.1, sum_same (setting_at days) (rest % 32) k, term_small ok (rest % 32) k (setting_at days k) c refl)
 
@@ -105,12 +105,12 @@ module _ (days : List ℤ) where
             small = omega (arith, s.small, next_small);
           }
 
-  pub summing_end : {digits rest k sum : ℕ} → Summing digits rest k sum → 8 ≤ k → SumIs days (settings_in digits) (Months sum)
+  pub summing_end : {digits rest k sum : ℕ} → Summing digits rest k sum → 8 ≤ k → SumIs days (settings_in digits) (Ok sum)
   unfolding settings_from settings_sum
   summing_end {digits} {rest} {k} {sum} s l = let n : 8 - k ≡ 0 = omega arith in (s.settled ∙ rw n refl, sym (s.total ∙ rw n (omega arith)))
 
   -- no more digits, no more settings
-  pub summing_rest : {digits rest k sum : ℕ} → Summing digits rest k sum → rest ≡ 0 → SumIs days (settings_in digits) (Months sum)
+  pub summing_rest : {digits rest k sum : ℕ} → Summing digits rest k sum → rest ≡ 0 → SumIs days (settings_in digits) (Ok sum)
   unfolding settings_sum
   summing_rest {digits} {rest} {k} {sum} s e =
       let n : settings_from (8 - k) k rest ≡ [] = ap (settings_from (8 - k) k) e ∙ no_settings (8 - k) k in

@@ -1,5 +1,5 @@
 -- Filling the open settings of a payoff's node table, row by row: months are summed once, before any month is tried.
-use Rattle.std.specs.Prelude.{◌+◌, ℕ, leb, nat_abs, pos, ℤ, get_or, set, Bool, ◌&&◌, ◌||◌, cond, false, true, List, ◌≡◌}
+use Rattle.std.specs.Prelude.{◌+◌, ℕ, leb, nat_abs, pos, ℤ, get_or, set, Bool, ◌&&◌, ◌||◌, cond, false, true, List, ◌≡◌, Err, Ok, Result}
 use Rattle.std.specs.Int.Signed.{non_neg}
 use Rattle.integers.specs.Equal.{eq_z}
 use Rattle.language.specs.Limits.{max_month}
@@ -11,8 +11,7 @@ use Rattle.language.specs.Text.Number.{byte}
 use Rattle.nodes.specs.Pass.{all_rows, map_rows, row_from, with_row}
 use Rattle.nodes.specs.Rows.{delay_from, month_from}
 use Rattle.tables.specs.Fill.{fill_delay}
-use Rattle.tables.specs.declared.fill.Filling.{Filling}
-use Rattle.tables.specs.declared.fill.Filling.TheVariants.{Filled, Unset}
+use Rattle.tables.specs.declared.fill.Unset.{Unset}
 
 -- ---- which rows have a month or a delay
 
@@ -60,20 +59,20 @@ row_in row =
 
 -- ---- what the pass answers, and what the table then holds; a table with an unset setting is of no use any more
 
-abbrev pub SettleIs : List ℤ → ℕ → List ℤ → List ℤ → Filling → Type 0
-SettleIs days count before after Filled = (all_rows (row_settled days) count before ≡ true) × (after ≡ map_rows (settle_row days) count before)
-SettleIs days count before after Unset = all_rows (row_settled days) count before ≡ false
+abbrev pub SettleIs : List ℤ → ℕ → List ℤ → List ℤ → Result Unit Unset → Type 0
+SettleIs days count before after (Ok _) = (all_rows (row_settled days) count before ≡ true) × (after ≡ map_rows (settle_row days) count before)
+SettleIs days count before after (Err _) = all_rows (row_settled days) count before ≡ false
 
 -- the same for the row from number `at` on
-abbrev pub RowIs : List ℤ → ℕ → List ℤ → List ℤ → Filling → Type 0
-RowIs days at before after Filled = (row_settled days (row_from at before) ≡ true) × (after ≡ with_row at (settle_row days (row_from at before)) before)
-RowIs days at before after Unset = row_settled days (row_from at before) ≡ false
+abbrev pub RowIs : List ℤ → ℕ → List ℤ → List ℤ → Result Unit Unset → Type 0
+RowIs days at before after (Ok _) = (row_settled days (row_from at before) ≡ true) × (after ≡ with_row at (settle_row days (row_from at before)) before)
+RowIs days at before after (Err _) = row_settled days (row_from at before) ≡ false
 
 -- and for the month at number `at`
-abbrev pub MonthIs : List ℤ → ℕ → List ℤ → List ℤ → Filling → Type 0
-MonthIs days at before after Filled = (month_settled days at before ≡ true) × (after ≡ settle_month days at before)
-MonthIs days at before after Unset = month_settled days at before ≡ false
+abbrev pub MonthIs : List ℤ → ℕ → List ℤ → List ℤ → Result Unit Unset → Type 0
+MonthIs days at before after (Ok _) = (month_settled days at before ≡ true) × (after ≡ settle_month days at before)
+MonthIs days at before after (Err _) = month_settled days at before ≡ false
 
 -- rows that settings change nothing of, and that use none
 abbrev pub Settled : ℕ → List ℤ → Type 0
-Settled count nodes = (days : List ℤ) → SettleIs days count nodes nodes Filled
+Settled count nodes = (days : List ℤ) → SettleIs days count nodes nodes (Ok _)

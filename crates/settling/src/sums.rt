@@ -4,24 +4,20 @@ ghost use Rattle.language.specs.Rules.Table.{are_settings};
 ghost use Rattle.nodes.specs.Rows.{settings_from, settings_in};
 ghost use Rattle.settling.specs.Sums.{SumIs};
 
-#[derive(Clone, Copy)]
-pub enum Summed {
-    Months(u64),
-    Unset,
-}
+use tables::fill::Unset;
 
 // The setting Pk, n times.
-pub fn term(days: &[i64], k: usize, n: u64) -> Summed
+pub fn term(days: &[i64], k: usize, n: u64) -> Result<u64, Unset>
     requires { (n < 32) × (are_settings days.now ≡ true) }
     ensures { SumIs days.now (replicate n k) result }
 {
     if n == 0 {
-        return Summed::Months(0);
+        return Ok(0);
     }
     if k < days.len() {
-        return Summed::Months(n * integers::magnitude(days[k]));
+        return Ok(n * integers::magnitude(days[k]));
     }
-    Summed::Unset
+    Err(Unset)
 }
 
 // The digits without those of the settings below Pk.
@@ -55,28 +51,19 @@ fn after_zeros(digits: u64) -> Start
 }
 
 // All eight digits, that of P0 the last. Once the rest is 0, no more settings follow.
-pub fn month_sum(days: &[i64], digits: u64) -> Summed
+pub fn month_sum(days: &[i64], digits: u64) -> Result<u64, Unset>
     requires { are_settings days.now ≡ true }
     ensures { SumIs days.now (settings_in digits) result }
 {
     let start = after_zeros(digits);
     let mut rest = start.rest;
-    let mut k = start.k;
     let mut sum = 0;
-    while k < 8 {
+    for k in start.k..8 {
         if rest == 0 {
-            return Summed::Months(sum);
+            return Ok(sum);
         }
-        match term(days, k, rest % 32) {
-            Summed::Months(n) => {
-                sum += n;
-                rest = rest / 32;
-                k += 1;
-            }
-            Summed::Unset => {
-                return Summed::Unset;
-            }
-        }
+        sum += term(days, k, rest % 32)?;
+        rest = rest / 32;
     }
-    Summed::Months(sum)
+    Ok(sum)
 }

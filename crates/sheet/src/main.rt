@@ -1,7 +1,7 @@
 // Reads a sheet from standard input and writes its answer to standard output, whole or not at all.
 #![tactic(auto)]
 
-use writer::Written;
+use writer::NoRoom;
 
 const STANDARD_INPUT: i32 = 0;
 
@@ -16,10 +16,10 @@ fn main() {
     let n = outputs::within(bytes, &input);
     let written = sheets::sheet(&input[..n], &mut out);
     match written {
-        Written::Bytes(m) => {
+        Ok(m) => {
             let end = outputs::within(m, &out);
             io::write_all(STANDARD_OUTPUT, &out[..end]);
         }
-        Written::NoRoom => {}
+        Err(NoRoom) => {}
     }
 }

@@ -1,11 +1,10 @@
 -- A plan that was accepted: what its column and what is left of it are, and the answer that they give.
-use Prim.Native.Nat.{◌*◌, ◌+◌, ◌<◌, ◌≤◌, suc, zero, ℕ}
+use Prim.Native.Nat.{◌+◌, ◌<◌, ◌≤◌, suc, zero, ℕ}
 use lib.IntN.{nat_abs, pos, ℤ}
 use lib.ListN.{get_or, length, replicate}
-use mathlib.Core.Bool.{Bool, true}
-use mathlib.Core.List.{List, [], ◌++◌, ◌∷◌}
-use mathlib.Core.Path.{◌∙◌, ◌≡◌, ap, ap₂, refl, subst, sym}
-use native.Mathlib.Nat.{le_trans}
+use mathlib.Core.Bool.{Bool}
+use mathlib.Core.List.{List, ◌++◌}
+use mathlib.Core.Path.{◌∙◌, ◌≡◌, ap, refl, subst, sym}
 use native.Mathlib.Omega.{arith}
 use Rattle.amounts.specs.Flat.{flat}
 use Rattle.amounts.specs.Placed.{place_in, placed_plan}
@@ -13,18 +12,16 @@ use Rattle.columns.proofs.AcceptedColumns.{column_is, weighed}
 use Rattle.columns.proofs.CutValues.{cut_now, sums_fit}
 use Rattle.columns.specs.Column.{Added, Weighed}
 use Rattle.columns.specs.Remaining.{SumsFit, rest_from}
-use Rattle.integers.specs.declared.Month.{Month}
-use Rattle.integers.specs.declared.Pence.{Pence}
 use Rattle.language.proofs.Guarantee.Kept.{Opening}
 use Rattle.language.proofs.Rules.Every.{top_plan}
 use Rattle.language.proofs.Text.Plans.{plan_round_trip}
-use Rattle.language.specs.Answer.{Answer, ◌>>=◌, got}
-use Rattle.language.specs.Calls.{Checked, Given, accept_plan, into_buffer, lookup_of, pair_ok, sign_of}
+use Rattle.language.specs.Answer.{Answer, got}
+use Rattle.language.specs.Calls.{Checked, Given, into_buffer, lookup_of, pair_ok, sign_of}
 use Rattle.language.specs.Guarantee.{Contract}
 use Rattle.language.specs.Limits.{max_amount, max_months}
 use Rattle.language.specs.Payments.Pays.{pays}
 use Rattle.language.specs.Rules.Measures.{length_of, magnitude_of, magnitude_of_amount}
-use Rattle.language.specs.Rules.Settings.{closed, fill}
+use Rattle.language.specs.Rules.Settings.{fill}
 use Rattle.language.specs.Rules.Table.{bound_at, setting_at}
 use Rattle.language.specs.Sheet.{month_lines, printed}
 use Rattle.language.specs.Text.Form.{filled_in_form}
@@ -39,15 +36,16 @@ use Rattle.payoff.proofs.TableFacts.{table_pays, table_read}
 use Rattle.places.specs.Place.{placed_row}
 use Rattle.printing.specs.Lines.{answer_call, head_text, months_text}
 use Rattle.rules.specs.Accepting.{accepting}
-use Rattle.rules.specs.Answers.{checking_answer, given_of}
+use Rattle.rules.specs.Answers.{checking_answer}
 use Rattle.rules.specs.Measured.{checked_of}
-use Rattle.rules.specs.declared.Checking.TheVariants.{Accepted}
 use Rattle.sheets.proofs.AnswerTexts.{head_line, month_lines_lem}
 use Rattle.sheets.specs.Answers.{answer_into, answer_of, sheet_of}
 use Rattle.sheets.specs.Held.{Cleared}
-use Rattle.tables.specs.Given.{table_of}
+use Rattle.tables.specs.Given.{given_of, table_of}
 use Rattle.tables.specs.Lookup.{KeptSpan}
 use Rattle.writer.specs.Written.{slot}
+use Rattle.std.specs.Prelude.{Ok}
+use Rattle.rules.specs.declared.Accepted.{Accepted}
 
 -- a list of zeros is empty in each place
 zeros_empty : (n m : ℕ) → get_or (replicate n (pos 0)) m (pos 0) ≡ pos 0
@@ -125,26 +123,26 @@ module _ {days : List ℤ} {h f : ℤ} {factors bounds values : List ℤ} {p q :
         answer_is out = ap (λ t. into_buffer out (got (record { value = tt; text = t }))) text_is
 
   -- ---- length and magnitude, as the code has them
-  module _ (l : Month) (m : Pence) (ok : Bool) (e : checking_answer (Accepted l m) ≡ accepting g (pos 0) ok x) (eo : ok ≡ pair_ok p q) where
-    measured : checking_answer (Accepted l m) ≡ got (checked_of (table_of h f factors bounds values) y)
+  module _ (plan : Accepted) (ok : Bool) (e : checking_answer (Ok plan) ≡ accepting g (pos 0) ok x) (eo : ok ≡ pair_ok p q) where
+    measured : checking_answer (Ok plan) ≡ got (checked_of (table_of h f factors bounds values) y)
     measured = e ∙ ap (λ b. accepting g (pos 0) b x) eo ∙ rw w.accepted.filled refl
 
-    pub length_is : nat_abs l.0 ≡ length_of y
+    pub length_is : nat_abs plan.length.0 ≡ length_of y
     unfolding checking_answer
     length_is = by measured
       where
         by : {a b : Checked} → ◌≡◌ {A = Answer Checked} (got a) (got b) → a.length ≡ b.length
         by {a} {b} e = let z : a ≡ b = cc in ap (λ r. r.length) z
 
-    pub magnitude_is : nat_abs m.0 ≡ magnitude_of (bound_at (table_of h f factors bounds values)) y
+    pub magnitude_is : nat_abs plan.magnitude.0 ≡ magnitude_of (bound_at (table_of h f factors bounds values)) y
     unfolding checking_answer
     magnitude_is = by measured
       where
         by : {a b : Checked} → ◌≡◌ {A = Answer Checked} (got a) (got b) → a.magnitude ≡ b.magnitude
         by {a} {b} e = let z : a ≡ b = cc in ap (λ r. r.magnitude) z
 
-    pub length_small : nat_abs l.0 ≤ 600
+    pub length_small : nat_abs plan.length.0 ≤ 600
     length_small = omega (arith, length_is, w.accepted.passed.meets.length, short)
 
-    pub magnitude_small : nat_abs m.0 ≤ max_amount
+    pub magnitude_small : nat_abs plan.magnitude.0 ≤ max_amount
     magnitude_small = omega (arith, magnitude_is, top_plan (λ z. magnitude_of (bound_at (table_of h f factors bounds values)) z ≤ max_amount) (λ a. magnitude_of_amount (bound_at (table_of h f factors bounds values)) a ≤ max_amount) y w.accepted.passed.meets.small)

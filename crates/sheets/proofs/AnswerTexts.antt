@@ -1,16 +1,15 @@
 -- The lines of an answer, from the lists that they are printed from.
 use Prim.Native.Nat.{◌+◌, ◌≤◌, suc, zero, ℕ}
-use lib.IntN.{nat_abs, pos, ℤ}
-use lib.ListN.{get_or}
+use lib.IntN.{pos, ℤ}
 use mathlib.Core.List.{List, [], ◌++◌, ◌∷◌, append_assoc, append-nil}
 use mathlib.Core.Path.{◌∙◌, ◌≡◌, ap, ap₂, refl, sym}
 use native.Mathlib.Omega.{arith}
-use Rattle.language.specs.Answer.{Answer, ◌>>=◌, got, refused}
+use Rattle.language.specs.Answer.{got, refused}
 use Rattle.language.specs.Calls.{evaluate, lookup_of, sign_of}
 use Rattle.language.specs.Payments.Pays.{pays}
 use Rattle.language.specs.Payoff.Compile.{compiled_plan, cut_payoff}
 use Rattle.language.specs.Sheet.{Sheet, line, month_line, month_lines, printed}
-use Rattle.language.specs.Text.Fields.{behind, bytes, join, join_with}
+use Rattle.language.specs.Text.Fields.{behind, bytes, join_with}
 use Rattle.language.specs.Text.Number.{print_nat, print_number}
 use Rattle.language.specs.Text.Trees.{Delay, Plan, start}
 use Rattle.printing.specs.Lines.{head_text, month_text, months_text, new_line, numbers_text, refusal_text}

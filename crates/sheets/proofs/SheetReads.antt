@@ -15,7 +15,7 @@ use Rattle.language.specs.Answer.{Answer, ◌>>=◌, ◌>>◌, got, refused, req
 use Rattle.language.specs.Calls.{Given, accept_plan, pair_ok}
 use Rattle.language.specs.Limits.{max_settings, sheet_bytes}
 use Rattle.language.specs.Rules.Measures.{length_of, magnitude_of}
-use Rattle.language.specs.Rules.Table.{Table, bound_at, is_month, are_settings, span, is_table}
+use Rattle.language.specs.Rules.Table.{Table, bound_at, is_month, are_settings, is_table}
 use Rattle.language.specs.Sheet as paper
 use Rattle.language.specs.Sheet.{line, lines_of, month_line, month_lines, printed, read_sheet, sheet_answer, sheet_call, sheet_text}
 use Rattle.language.specs.Text.Fields.{bytes, split_at}
@@ -28,11 +28,10 @@ use Rattle.lines.specs.Sheets.{Holds}
 use Rattle.lines.specs.declared.Sheet.{Sheet}
 use Rattle.payoff.proofs.TableFacts.{table_pays, table_read}
 use Rattle.rules.proofs.Checks.{read_standing}
-use Rattle.rules.specs.Answers.{given_of}
 use Rattle.rules.specs.Standing.{Standing}
 use Rattle.sheets.specs.Answers.{answer_into, answer_of, refusal_into, sheet_of, text_into}
 use Rattle.sheets.specs.Held.{SheetHeld}
-use Rattle.tables.specs.Given.{table_of}
+use Rattle.tables.specs.Given.{given_of, table_of}
 use Rattle.text.specs.ReadInto as read
 use Rattle.text.specs.Refusals.{number_of}
 use Rattle.text.specs.declared.Refusal.{Refusal}

@@ -1,12 +1,11 @@
 -- A sheet that was read into lists that hold its table, or all of a table that keeps the rules.
-use Rattle.std.specs.Prelude.{◌-◌, ◌≤◌, ℕ, pos, ℤ, drop, length, replicate, take, List, ◌≡◌}
+use Rattle.std.specs.Prelude.{◌-◌, ◌≤◌, ℕ, pos, ℤ, drop, length, replicate, take, List, ◌≡◌, None, Option, Result, Some}
 use Rattle.language.specs.Limits.{sheet_bytes}
 use Rattle.lines.specs.Sheets.{SheetRead}
 use Rattle.language.specs.Sheet.{sheet_call}
 use Rattle.lines.specs.declared.Sheet.{Sheet}
-use Rattle.sheets.specs.declared.Tried.{Tried}
-use Rattle.sheets.specs.declared.Tried.TheVariants.{Answered, Crowded}
 use Rattle.writer.specs.Answers.{written_answer}
+use Rattle.writer.specs.declared.NoRoom.{NoRoom}
 
 pub record SheetHeld (input : List ℕ) (days factors bounds values : List ℤ) (sheet : Sheet) : Type 0 where
   pub read : SheetRead input days factors bounds values sheet
@@ -29,6 +28,6 @@ abbrev pub Cleared : List ℤ → Type 0
 Cleared column = column ≡ replicate (length column) (pos 0)
 
 -- what is answered with lists of so many months and places: the call's answer, or nothing yet, unless they hold every table that keeps the rules
-abbrev pub TriedIs : List ℕ → ℕ → ℕ → List ℕ → List ℕ → Tried → Type 0
-TriedIs input months places before after (Answered written) = (after ≡ (sheet_call input before).buffer) × (written_answer written ≡ (sheet_call input before).answer)
-TriedIs input months places before after Crowded = (after ≡ before) × ((601 ≤ months) × (5288 ≤ places) → ⊥)
+abbrev pub TriedIs : List ℕ → ℕ → ℕ → List ℕ → List ℕ → Option (Result ℕ NoRoom) → Type 0
+TriedIs input months places before after (Some written) = (after ≡ (sheet_call input before).buffer) × (written_answer written ≡ (sheet_call input before).answer)
+TriedIs input months places before after None = (after ≡ before) × ((601 ≤ months) × (5288 ≤ places) → ⊥)

@@ -1,7 +1,7 @@
 // The sheet as a call on bytes.
 #![tactic(auto)]
 
-ghost use Rattle.std.specs.Prelude.{◌≡◌, ◌&&◌, ◌||◌, List, min, suc, ℕ, ◌<◌, ◌≤◌, leb, nat_abs, pos, length};
+ghost use Rattle.std.specs.Prelude.{◌≡◌, ◌&&◌, ◌||◌, List, min, suc, ℕ, ◌≤◌, leb, nat_abs, pos, length, replicate};
 ghost use Rattle.amounts.specs.Flat.{flat};
 ghost use Rattle.columns.specs.Column.{Added, Weighed};
 ghost use Rattle.language.specs.Calls.{pair_ok, sign_of};
@@ -12,26 +12,27 @@ ghost use Rattle.nodes.specs.Found.{plan_at};
 ghost use Rattle.nodes.specs.Stands.{PlanStands};
 ghost use Rattle.nodes.specs.Table.{nat_of};
 ghost use Rattle.pays.specs.Parties.{PairIn};
-ghost use Rattle.rules.specs.Answers.{given_of};
 ghost use Rattle.rules.specs.Standing.{Standing, Stands};
 ghost use Rattle.sheets.specs.Answers.{answer_into, refusal_into};
 ghost use Rattle.sheets.specs.Held.{Cleared, MonthRoom, SheetHeld, TriedIs, plan_text};
+ghost use Rattle.tables.specs.Given.{given_in};
 ghost use Rattle.tables.specs.Lookup.{KeptSpan};
 ghost use Rattle.text.specs.Refusals.{number_of};
-ghost use Rattle.text.specs.Room.{Roomy, letters_in};
+ghost use Rattle.text.specs.Room.{Roomy};
 ghost use Rattle.writer.specs.Answers.{written_answer};
 
+use amounts::Tables;
 use columns::remaining;
 use integers::{Month, Pence};
-use lines::{Sheet, Sheeting};
+use lines::Sheet;
 use pays::Pair;
-use rules::Checking;
 use tables::Span;
-use text::{Reading, Refusal};
-use writer::Written;
+use tables::given::Given;
+use text::Refusal;
+use writer::NoRoom;
 
 // The line of a refused sheet.
-pub fn refuse(refusal: Refusal, out: &mut [u8]) -> Written
+pub fn refuse(refusal: Refusal, out: &mut [u8]) -> Result<usize, NoRoom>
     ensures { (out.new ≡ (refusal_into (number_of refusal) out.old).buffer)
         × (written_answer result ≡ (refusal_into (number_of refusal) out.old).answer) }
 {
@@ -47,62 +48,52 @@ fn months_of(span: Span) -> usize
     span.f as usize + 1
 }
 
-// The walk of the plan from its root: a table and its values go with it as one pointer each.
+// The walk of the plan from its root: what it reads goes with it as one pointer.
 fn plan_column(nodes: &[i64], values: &[i64], pair: Pair, column: &mut [i64])
     requires { PairIn pair.p pair.q × PlanStands 32 nodes.now 0 × Weighed values.now (plan_at nat_of 32 nodes.now 0) 0 (pos 1) column.old }
     ensures { Added column.old column.new (pos 1)
         (pays (flat values.now) (sign_of pair.p pair.q) (plan_at nat_of 32 nodes.now 0) 0) }
 {
-    columns::plan_column(&nodes, &values, Month(0), pair, Pence(1), column, 0, 32);
+    columns::plan_column(
+        &Tables { nodes, values },
+        Month(0),
+        pair,
+        Pence(1),
+        column,
+        0,
+        32,
+    );
 }
 
 // The answer for a plan that was read: accepted first, then paid month by month, and what is left from each month on.
 pub fn answer(
     nodes: &mut [i64],
     count: usize,
-    days: &[i64],
-    span: Span,
-    factors: &[i64],
-    bounds: &[i64],
-    values: &[i64],
+    given: &Given,
     pair: Pair,
     asked: bool,
     column: &mut [i64],
     rest: &mut [i64],
     out: &mut [u8],
-) -> Written
-    requires { Stands nodes.old count × (asked ≡ pair_ok pair.p pair.q) × (length factors.now ≤ length column.old) × Cleared column.old × (length factors.now ≤ length rest.old) }
+) -> Result<usize, NoRoom>
+    requires { Stands nodes.old count × (asked ≡ pair_ok pair.p pair.q) × (length given.now.factors.now ≤ length column.old) × Cleared column.old × (length given.now.factors.now ≤ length rest.old) }
     ensures { (x : Plan Delay) → Standing nodes.old count x
-        → (out.new ≡ (answer_into
-        (given_of days.now span.h span.f factors.now bounds.now values.now)
-        pair.p pair.q x out.old).buffer)
-        × (written_answer result ≡ (answer_into
-        (given_of days.now span.h span.f factors.now bounds.now values.now)
-        pair.p pair.q x out.old).answer) }
+        → (out.new ≡ (answer_into (given_in given.now) pair.p pair.q x out.old).buffer)
+        × (written_answer result ≡ (answer_into (given_in given.now) pair.p pair.q x out.old).answer) }
 {
-    let checking = rules::accept(
-        nodes,
-        count,
-        days,
-        span,
-        factors,
-        bounds,
-        values,
-        Month(0),
-        asked,
-    );
+    let checking = rules::accept(nodes, count, given, Month(0), asked);
     match checking {
-        Checking::Accepted(length, magnitude) => {
-            places::place_rows(nodes, count, span);
-            plan_column(nodes, values, pair, column);
-            let months = months_of(span);
-            remaining::add_back(factors, column, rest, months);
-            let a = integers::magnitude(length.0) as i64;
-            let b = integers::magnitude(magnitude.0) as i64;
+        Ok(plan) => {
+            places::place_rows(nodes, count, given.span);
+            plan_column(nodes, given.values, pair, column);
+            let months = months_of(given.span);
+            remaining::add_back(given.factors, column, rest, months);
+            let a = integers::magnitude(plan.length.0) as i64;
+            let b = integers::magnitude(plan.magnitude.0) as i64;
             let head = [a, b];
             printing::write_answer(&head, column, rest, months, out)
         }
-        Checking::Refused(refusal) => refuse(refusal, out),
+        Err(refusal) => refuse(refusal, out),
     }
 }
 
@@ -120,20 +111,26 @@ fn settings_of(sheet: Sheet) -> usize
     if sheet.days <= 9 { sheet.days } else { 9 }
 }
 
+// The lists that a sheet's settings and table are read into: each may go on behind what was read.
+#[derive(Clone, Copy)]
+struct Lists<'a> {
+    days: &'a [i64],
+    factors: &'a [i64],
+    bounds: &'a [i64],
+    values: &'a [i64],
+}
+
 // The answer of a sheet that was read, with a table lent for its plan and lists for what is paid and what is left in each month.
 fn answer_with(
     input: &[u8],
     sheet: Sheet,
+    lists: &Lists,
     nodes: &mut [i64],
     column: &mut [i64],
     rest: &mut [i64],
-    days: &[i64],
-    factors: &[i64],
-    bounds: &[i64],
-    values: &[i64],
     out: &mut [u8],
-) -> Written
-    requires { SheetHeld input.now days.now factors.now bounds.now values.now sheet × Roomy (plan_text input.now sheet) nodes.old × MonthRoom sheet column.old × Cleared column.old × MonthRoom sheet rest.old }
+) -> Result<usize, NoRoom>
+    requires { SheetHeld input.now lists.now.days.now lists.now.factors.now lists.now.bounds.now lists.now.values.now sheet × Roomy (plan_text input.now sheet) nodes.old × MonthRoom sheet column.old × Cleared column.old × MonthRoom sheet rest.old }
     ensures { (out.new ≡ (sheet_call input.now out.old).buffer)
         × (written_answer result ≡ (sheet_call input.now out.old).answer) }
 {
@@ -141,7 +138,7 @@ fn answer_with(
     let to = sheet.to;
     let reading = text::read_plan(&input[from..to], nodes);
     match reading {
-        Reading::Nodes(count) => {
+        Ok(count) => {
             if fits(sheet) {
                 let n = settings_of(sheet);
                 let months = sheet.factors;
@@ -153,160 +150,43 @@ fn answer_with(
                 let q = sheet.q;
                 let pair = Pair { p, q };
                 let asked = payments::parties_ok(pair);
-                answer(
-                    nodes,
-                    count,
-                    &days[0..n],
-                    Span { h, f },
-                    &factors[0..months],
-                    &bounds[0..labels],
-                    &values[0..places],
-                    pair,
-                    asked,
-                    column,
-                    rest,
-                    out,
-                )
+                let given = Given {
+                    days: &lists.days[0..n],
+                    span: Span { h, f },
+                    factors: &lists.factors[0..months],
+                    bounds: &lists.bounds[0..labels],
+                    values: &lists.values[0..places],
+                };
+                answer(nodes, count, &given, pair, asked, column, rest, out)
             } else {
                 refuse(Refusal::Table, out)
             }
         }
-        Reading::Refused(refusal) => refuse(refusal, out),
+        Err(unread) => refuse(unread, out),
     }
 }
 
-// A plan of few letters has few nodes, and a short table is cleared sooner: 48 rows, 96, 192 or all 512.
-fn small_answer(
+// A plan of few letters has few nodes, and a short table is cleared sooner: one of 48 rows, 96, 192 or all 512.
+fn answer_sized<const N: usize, const M: usize>(
     input: &[u8],
     sheet: Sheet,
-    days: &[i64],
-    factors: &[i64],
-    bounds: &[i64],
-    values: &[i64],
+    lists: &Lists,
     out: &mut [u8],
-) -> Written
-    requires { SheetHeld input.now days.now factors.now bounds.now values.now sheet × (letters_in (plan_text input.now sheet) < 48) × (sheet.factors ≤ 64) }
+) -> Result<usize, NoRoom>
+    requires { SheetHeld input.now lists.now.days.now lists.now.factors.now lists.now.bounds.now lists.now.values.now sheet × (N ≤ 2560) × (M ≤ 601)
+        × Roomy (plan_text input.now sheet) (replicate N (pos 0)) × MonthRoom sheet (replicate M (pos 0)) }
     ensures { (out.new ≡ (sheet_call input.now out.old).buffer)
         × (written_answer result ≡ (sheet_call input.now out.old).answer) }
 {
-    let mut nodes = [0i64; 240];
-    let mut column = [0i64; 64];
-    let mut rest = [0i64; 64];
-    answer_with(
-        input,
-        sheet,
-        &mut nodes,
-        &mut column,
-        &mut rest,
-        days,
-        factors,
-        bounds,
-        values,
-        out,
-    )
-}
-
-fn brief_answer(
-    input: &[u8],
-    sheet: Sheet,
-    days: &[i64],
-    factors: &[i64],
-    bounds: &[i64],
-    values: &[i64],
-    out: &mut [u8],
-) -> Written
-    requires { SheetHeld input.now days.now factors.now bounds.now values.now sheet × (letters_in (plan_text input.now sheet) < 96) × (sheet.factors ≤ 64) }
-    ensures { (out.new ≡ (sheet_call input.now out.old).buffer)
-        × (written_answer result ≡ (sheet_call input.now out.old).answer) }
-{
-    let mut nodes = [0i64; 480];
-    let mut column = [0i64; 64];
-    let mut rest = [0i64; 64];
-    answer_with(
-        input,
-        sheet,
-        &mut nodes,
-        &mut column,
-        &mut rest,
-        days,
-        factors,
-        bounds,
-        values,
-        out,
-    )
-}
-
-fn short_answer(
-    input: &[u8],
-    sheet: Sheet,
-    days: &[i64],
-    factors: &[i64],
-    bounds: &[i64],
-    values: &[i64],
-    out: &mut [u8],
-) -> Written
-    requires { SheetHeld input.now days.now factors.now bounds.now values.now sheet × (letters_in (plan_text input.now sheet) < 192) }
-    ensures { (out.new ≡ (sheet_call input.now out.old).buffer)
-        × (written_answer result ≡ (sheet_call input.now out.old).answer) }
-{
-    let mut nodes = [0i64; 960];
-    let mut column = [0i64; 601];
-    let mut rest = [0i64; 601];
-    answer_with(
-        input,
-        sheet,
-        &mut nodes,
-        &mut column,
-        &mut rest,
-        days,
-        factors,
-        bounds,
-        values,
-        out,
-    )
-}
-
-fn long_answer(
-    input: &[u8],
-    sheet: Sheet,
-    days: &[i64],
-    factors: &[i64],
-    bounds: &[i64],
-    values: &[i64],
-    out: &mut [u8],
-) -> Written
-    requires { SheetHeld input.now days.now factors.now bounds.now values.now sheet }
-    ensures { (out.new ≡ (sheet_call input.now out.old).buffer)
-        × (written_answer result ≡ (sheet_call input.now out.old).answer) }
-{
-    let mut nodes = [0i64; 2560];
-    let mut column = [0i64; 601];
-    let mut rest = [0i64; 601];
-    answer_with(
-        input,
-        sheet,
-        &mut nodes,
-        &mut column,
-        &mut rest,
-        days,
-        factors,
-        bounds,
-        values,
-        out,
-    )
+    let mut nodes = [0i64; N];
+    let mut column = [0i64; M];
+    let mut rest = [0i64; M];
+    answer_with(input, sheet, lists, &mut nodes, &mut column, &mut rest, out)
 }
 
 // The answer of a sheet that was read.
-fn answer_read(
-    input: &[u8],
-    sheet: Sheet,
-    days: &[i64],
-    factors: &[i64],
-    bounds: &[i64],
-    values: &[i64],
-    out: &mut [u8],
-) -> Written
-    requires { SheetHeld input.now days.now factors.now bounds.now values.now sheet }
+fn answer_read(input: &[u8], sheet: Sheet, lists: &Lists, out: &mut [u8]) -> Result<usize, NoRoom>
+    requires { SheetHeld input.now lists.now.days.now lists.now.factors.now lists.now.bounds.now lists.now.values.now sheet }
     ensures { (out.new ≡ (sheet_call input.now out.old).buffer)
         × (written_answer result ≡ (sheet_call input.now out.old).answer) }
 {
@@ -316,23 +196,16 @@ fn answer_read(
     let letters = text::room::letters_at_most(&input[from..to]);
     if months <= 64 {
         if letters < 48 {
-            return small_answer(input, sheet, days, factors, bounds, values, out);
+            return answer_sized::<240, 64>(input, sheet, lists, out);
         }
         if letters < 96 {
-            return brief_answer(input, sheet, days, factors, bounds, values, out);
+            return answer_sized::<480, 64>(input, sheet, lists, out);
         }
     }
     if letters < 192 {
-        return short_answer(input, sheet, days, factors, bounds, values, out);
+        return answer_sized::<960, 601>(input, sheet, lists, out);
     }
-    long_answer(input, sheet, days, factors, bounds, values, out)
-}
-
-// An answer, or that the lent lists do not hold the sheet's table though longer ones might.
-#[derive(Clone, Copy)]
-pub enum Tried {
-    Answered(Written),
-    Crowded,
+    answer_sized::<2560, 601>(input, sheet, lists, out)
 }
 
 // Whether lists of so many months and places hold a sheet's table, or all of a table that keeps the rules.
@@ -343,7 +216,12 @@ fn is_held(sheet: Sheet, months: usize, places: usize) -> bool
 }
 
 // A sheet that is not too long, its table read into the lent lists.
-fn answer_in(input: &[u8], factors: &mut [i64], values: &mut [i64], out: &mut [u8]) -> Tried
+fn answer_in(
+    input: &[u8],
+    factors: &mut [i64],
+    values: &mut [i64],
+    out: &mut [u8],
+) -> Option<Result<usize, NoRoom>>
     requires { length input.now ≤ 60_000 }
     ensures { TriedIs input.now (length factors.old) (length values.old) out.old out.new result }
 {
@@ -351,19 +229,25 @@ fn answer_in(input: &[u8], factors: &mut [i64], values: &mut [i64], out: &mut [u
     let mut bounds = [0i64; 8];
     let sheeting = lines::read_sheet(input, &mut days, factors, &mut bounds, values);
     match sheeting {
-        Sheeting::Read(held) => {
+        Some(held) => {
             if is_held(held, factors.len(), values.len()) {
-                Tried::Answered(answer_read(input, held, &days, factors, &bounds, values, out))
+                let lists = Lists {
+                    days: &days,
+                    factors,
+                    bounds: &bounds,
+                    values,
+                };
+                Some(answer_read(input, held, &lists, out))
             } else {
-                Tried::Crowded
+                None
             }
         }
-        Sheeting::Fault => Tried::Answered(refuse(Refusal::NotOfForm, out)),
+        None => Some(refuse(Refusal::NotOfForm, out)),
     }
 }
 
 // With room for every table that keeps the rules.
-fn long_sheet(input: &[u8], out: &mut [u8]) -> Written
+fn long_sheet(input: &[u8], out: &mut [u8]) -> Result<usize, NoRoom>
     requires { length input.now ≤ 60_000 }
     ensures { (out.new ≡ (sheet_call input.now out.old).buffer)
         × (written_answer result ≡ (sheet_call input.now out.old).answer) }
@@ -372,63 +256,55 @@ fn long_sheet(input: &[u8], out: &mut [u8]) -> Written
     let mut values = [0i64; 5288];
     let tried = answer_in(input, &mut factors, &mut values, out);
     match tried {
-        Tried::Answered(written) => written,
+        Some(written) => written,
         // never: lists as long as these are not crowded
-        Tried::Crowded => refuse(Refusal::Table, out),
+        None => refuse(Refusal::Table, out),
     }
 }
 
 // What was answered; a sheet that shorter lists did not hold is read again into the longest.
-fn or_long(tried: Tried, input: &[u8], out: &mut [u8]) -> Written
+fn or_long(
+    tried: Option<Result<usize, NoRoom>>,
+    input: &[u8],
+    out: &mut [u8],
+) -> Result<usize, NoRoom>
     requires { length input.now ≤ 60_000 }
     ensures { (months places : ℕ) (before : List ℕ) → TriedIs input.now months places before out.old tried
         → (out.new ≡ (sheet_call input.now before).buffer)
         × (written_answer result ≡ (sheet_call input.now before).answer) }
 {
     match tried {
-        Tried::Answered(written) => written,
-        Tried::Crowded => long_sheet(input, out),
+        Some(written) => written,
+        None => long_sheet(input, out),
     }
 }
 
-// With room for the values of two labels: less to clear.
-fn short_sheet(input: &[u8], out: &mut [u8]) -> Written
-    requires { length input.now ≤ 60_000 }
+// With room for fewer factors and values: less to clear.
+fn sheet_with<const M: usize, const P: usize>(input: &[u8], out: &mut [u8]) -> Result<usize, NoRoom>
+    requires { (length input.now ≤ 60_000) × (M ≤ 601) × (P ≤ 5288) }
     ensures { (out.new ≡ (sheet_call input.now out.old).buffer)
         × (written_answer result ≡ (sheet_call input.now out.old).answer) }
 {
-    let mut factors = [0i64; 601];
-    let mut values = [0i64; 1344];
-    let tried = answer_in(input, &mut factors, &mut values, out);
-    or_long(tried, input, out)
-}
-
-// With room for the few numbers that a sheet of some lines has.
-fn brief_sheet(input: &[u8], out: &mut [u8]) -> Written
-    requires { length input.now ≤ 60_000 }
-    ensures { (out.new ≡ (sheet_call input.now out.old).buffer)
-        × (written_answer result ≡ (sheet_call input.now out.old).answer) }
-{
-    let mut factors = [0i64; 64];
-    let mut values = [0i64; 128];
+    let mut factors = [0i64; M];
+    let mut values = [0i64; P];
     let tried = answer_in(input, &mut factors, &mut values, out);
     or_long(tried, input, out)
 }
 
 // The lines of a sheet's answer, or its one line `refused,` with the number, from the first byte of `out` on.
-pub fn sheet(input: &[u8], out: &mut [u8]) -> Written
+pub fn sheet(input: &[u8], out: &mut [u8]) -> Result<usize, NoRoom>
     ensures { (out.new ≡ (sheet_call input.now out.old).buffer)
         × (written_answer result ≡ (sheet_call input.now out.old).answer) }
 {
     if 60_000 < input.len() {
         return refuse(Refusal::TooLong, out);
     }
-    // in so few bytes there are seldom more numbers than the smaller room holds
+    // in so few bytes there are seldom more numbers than the smaller room holds: those of some lines, or the values of two labels
     if input.len() <= 640 {
-        return brief_sheet(input, out);
+        return sheet_with::<64, 128>(input, out);
     }
     if input.len() <= 10_240 {
-        return short_sheet(input, out);
+        return sheet_with::<601, 1344>(input, out);
     }
     long_sheet(input, out)
 }

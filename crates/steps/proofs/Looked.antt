@@ -8,10 +8,10 @@ use Rattle.language.proofs.Acceptance.{no_answer}
 use Rattle.language.specs.Answer.{Answer, got, refused}
 use Rattle.language.specs.Rules.Table.{Table, readable, value_at}
 use Rattle.tables.specs.Lookup.{found_answer, looked_up}
-use Rattle.tables.specs.declared.lookup.Found.TheVariants.{Outside, Value}
+use Rattle.std.specs.Prelude.{None, Some}
 
 module _ (t : Table) (l : ℕ) (m : ℤ) where
-  pub no_value : found_answer Outside ≡ looked_up t l m → pos 0 ≡ value_at t l m
+  pub no_value : found_answer None ≡ looked_up t l m → pos 0 ≡ value_at t l m
   unfolding found_answer looked_up value_at
   no_value e = go (readable t l m) _ e
     where
@@ -19,7 +19,7 @@ module _ (t : Table) (l : ℕ) (m : ℤ) where
       go true v e = no_answer e
       go false v e = refl
 
-  pub is_value : (p : Pence) → found_answer (Value p) ≡ looked_up t l m → p.0 ≡ value_at t l m
+  pub is_value : (p : Pence) → found_answer (Some p) ≡ looked_up t l m → p.0 ≡ value_at t l m
   unfolding found_answer looked_up
   is_value p e = go (readable t l m) (value_at t l m) e
     where

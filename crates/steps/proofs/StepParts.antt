@@ -35,7 +35,6 @@ use Rattle.nodes.specs.Found.{offset_of, test_at}
 use Rattle.nodes.specs.Rows.{count_of, delay_slot, field_slots, first_count, slots_of}
 use Rattle.nodes.specs.Stands.{TestStands}
 use Rattle.nodes.specs.Table.{link_at, slot_at}
-use Rattle.nodes.specs.declared.PlanLetter.{PlanLetter}
 use Rattle.places.proofs.PlacedForm.{depth_amount}
 use Rattle.steps.proofs.Tested.{test_fine, test_holds, test_stands}
 use Rattle.steps.specs.Ready.{Steps}

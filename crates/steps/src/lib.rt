@@ -3,10 +3,8 @@
 #![tactic(auto)]
 
 ghost use Rattle.std.specs.Prelude.{◌*◌, ◌+◌, ◌<◌, ◌≤◌, pos, length, ◌≡◌};
-ghost use Rattle.amounts.specs.Fine.{MonthIn};
 ghost use Rattle.amounts.specs.Flat.{flat};
 ghost use Rattle.copies.specs.Appended.{Appended};
-ghost use Rattle.copies.specs.Copied.{Copied};
 ghost use Rattle.copies.specs.Plain.{plain_rows};
 ghost use Rattle.language.specs.Payments.Step.{step};
 ghost use Rattle.language.specs.Calls.{lookup_of, sign_of};
@@ -19,58 +17,20 @@ ghost use Rattle.nodes.specs.Found.{plan_at};
 ghost use Rattle.nodes.specs.Stands.{PlanStands};
 ghost use Rattle.nodes.specs.Table.{nat_of, slot_at};
 ghost use Rattle.pays.specs.FinePlan.{FinePlan};
-ghost use Rattle.pays.specs.Parties.{PairIn};
 ghost use Rattle.places.specs.Place.{SpanIn};
-ghost use Rattle.steps.specs.Offsets.{restored_row, stepped_row};
 ghost use Rattle.steps.specs.Ready.{Ready};
 ghost use Rattle.steps.specs.Waits.{Waits};
-ghost use Rattle.tables.specs.Lookup.{Kept, read_table};
+ghost use Rattle.tables.specs.Lookup.{read_table};
 
-use integers::{Month, Pence};
+use copies::changes;
+use integers::Pence;
 use nodes::PlanLetter;
-use pays::Pair;
+use rows::{Restored, Stepped};
 use tables::Span;
 
 pub mod offsets;
 pub mod reads;
 pub mod rows;
-
-// The rows from node `from` up to node `to`, each `O` with its offset again.
-pub fn restore_rows(nodes: &mut [i64], span: Span, count: usize, from: usize, to: usize) -> usize
-    requires { SpanIn span.h span.f × (from ≤ to) × (to ≤ 512) × (5 * to ≤ length nodes.old) × (count ≤ from) }
-    ensures { Copied (restored_row span.h span.f) nodes.old nodes.new from to count result }
-{
-    let mut next = count;
-    let mut at = from;
-    while at < to {
-        next = rows::restore_row(nodes, span, next, at);
-        at += 1;
-    }
-    next
-}
-
-// The rows of an amount, stepped.
-pub fn step_rows(
-    nodes: &mut [i64],
-    values: &&[i64],
-    bounds: &&[i64],
-    span: Span,
-    today: Month,
-    count: usize,
-    from: usize,
-    to: usize,
-) -> usize
-    requires { SpanIn span.h span.f × Kept span.h span.f bounds.now.now values.now.now × MonthIn today.0 × (from ≤ to) × (to ≤ 512) × (5 * to ≤ length nodes.old) × (count ≤ from) }
-    ensures { Copied (stepped_row (read_table span.h span.f bounds.now.now values.now.now) (nat_of today.0)) nodes.old nodes.new from to count result }
-{
-    let mut next = count;
-    let mut at = from;
-    while at < to {
-        next = rows::step_row(nodes, values, bounds, span, today, next, at);
-        at += 1;
-    }
-    next
-}
 
 // What the pair pays today, and how many rows of the plan for tomorrow are written.
 #[derive(Clone, Copy)]
@@ -85,11 +45,11 @@ fn keep_waiting(nodes: &mut [i64], span: Span, count: usize, at: usize, to: usiz
     ensures { (result.pence.0 ≡ pos 0) × Waits span.h span.f nodes.old nodes.new at to count result.next }
 {
     let nothing_yet = Pence(0);
-    let d = offsets::earlier(reads::delay(nodes, at));
+    let d = offsets::earlier(nodes::delay(nodes, at));
     let head = rows::put_delay(nodes, count, at, d);
     Today {
         pence: nothing_yet,
-        next: restore_rows(nodes, span, head, at + 1, to),
+        next: changes::copy_rows(nodes, &Restored { span }, head, at + 1, to),
     }
 }
 
@@ -97,23 +57,19 @@ fn keep_waiting(nodes: &mut [i64], span: Span, count: usize, at: usize, to: usiz
 // month. Both are found in one walk, so a test is tried once; what starts later pays nothing yet.
 pub fn step_plan(
     nodes: &mut [i64],
-    values: &&[i64],
-    bounds: &&[i64],
-    span: Span,
-    today: Month,
-    pair: Pair,
+    day: &Stepped,
     count: usize,
     at: usize,
     to: usize,
     left: usize,
 ) -> Today
-    requires { MonthIn today.0 × PairIn pair.p pair.q × Ready span.h span.f bounds.now.now values.now.now (nat_of today.0) nodes.old at to left × (count ≤ at)
-        × PlanStands left nodes.old at × FinePlan values.now.now (sign_of pair.p pair.q) (plan_at nat_of left nodes.old at) (nat_of today.0) (nat_of today.0) }
-    ensures { (result.pence.0 ≡ pays (flat values.now.now) (sign_of pair.p pair.q) (plan_at nat_of left nodes.old at) (nat_of today.0) (nat_of today.0))
-        × (result.next + at ≤ count + to) × ((y : Ready span.h span.f bounds.now.now values.now.now (nat_of today.0) nodes.old at to left)
-        → Appended nodes.old nodes.new count result.next (plain_rows plan_form (plan_trees (closed (step (lookup_of (read_table span.h span.f bounds.now.now values.now.now)) (nat_of today.0) y.plan)) end))) }
+    requires { Ready day.now.span.h day.now.span.f day.now.bounds.now day.now.values.now (nat_of day.now.today.0) nodes.old at to left × (count ≤ at)
+        × PlanStands left nodes.old at × FinePlan day.now.values.now (sign_of day.now.pair.p day.now.pair.q) (plan_at nat_of left nodes.old at) (nat_of day.now.today.0) (nat_of day.now.today.0) }
+    ensures { (result.pence.0 ≡ pays (flat day.now.values.now) (sign_of day.now.pair.p day.now.pair.q) (plan_at nat_of left nodes.old at) (nat_of day.now.today.0) (nat_of day.now.today.0))
+        × (result.next + at ≤ count + to) × ((y : Ready day.now.span.h day.now.span.f day.now.bounds.now day.now.values.now (nat_of day.now.today.0) nodes.old at to left)
+        → Appended nodes.old nodes.new count result.next (plain_rows plan_form (plan_trees (closed (step (lookup_of (read_table day.now.span.h day.now.span.f day.now.bounds.now day.now.values.now)) (nat_of day.now.today.0) y.plan)) end))) }
 {
-    let letter = copies::plan_kind(nodes, at);
+    let letter = nodes::plan_kind(nodes, at);
     match letter {
         PlanLetter::Nothing => {
             let next = copies::put_letter(nodes, count, 90);
@@ -123,116 +79,50 @@ pub fn step_plan(
             }
         }
         PlanLetter::Transfer => {
-            let pence = reads::penny(nodes, at, pair);
+            let pence = reads::penny(nodes, at, day.pair);
             let next = copies::put_letter(nodes, count, 90);
             Today { pence, next }
         }
         PlanLetter::Scale => {
-            let second = copies::link(nodes, at, 3);
-            let a = reads::amount(nodes, values, today, at + 1, second);
+            let second = nodes::link(nodes, at, 3);
+            let a = reads::amount(nodes, &day.values, day.today, at + 1, second);
             let head = copies::put_letter(nodes, count, 83);
-            let below = step_rows(nodes, values, bounds, span, today, head, at + 1, second);
-            let x = step_plan(
-                nodes,
-                values,
-                bounds,
-                span,
-                today,
-                pair,
-                below,
-                second,
-                to,
-                left - 1,
-            );
+            let below = changes::copy_rows(nodes, day, head, at + 1, second);
+            let x = step_plan(nodes, day, below, second, to, left - 1);
             Today {
                 pence: integers::times(a, x.pence),
                 next: x.next,
             }
         }
         PlanLetter::Later => {
-            let d = reads::delay(nodes, at);
+            let d = nodes::delay(nodes, at);
             if offsets::due(d) {
-                step_plan(
-                    nodes,
-                    values,
-                    bounds,
-                    span,
-                    today,
-                    pair,
-                    count,
-                    at + 1,
-                    to,
-                    left - 1,
-                )
+                step_plan(nodes, day, count, at + 1, to, left - 1)
             } else {
-                keep_waiting(nodes, span, count, at, to)
+                keep_waiting(nodes, day.span, count, at, to)
             }
         }
         PlanLetter::Both => {
-            let second = copies::link(nodes, at, 3);
+            let second = nodes::link(nodes, at, 3);
             let head = copies::put_letter(nodes, count, 66);
-            let x = step_plan(
-                nodes,
-                values,
-                bounds,
-                span,
-                today,
-                pair,
-                head,
-                at + 1,
-                second,
-                left - 1,
-            );
-            let y = step_plan(
-                nodes,
-                values,
-                bounds,
-                span,
-                today,
-                pair,
-                x.next,
-                second,
-                to,
-                left - 1,
-            );
+            let x = step_plan(nodes, day, head, at + 1, second, left - 1);
+            let y = step_plan(nodes, day, x.next, second, to, left - 1);
             Today {
                 pence: integers::plus(x.pence, y.pence),
                 next: y.next,
             }
         }
         PlanLetter::Within => {
-            let second = copies::link(nodes, at, 3);
-            let third = copies::link(nodes, at, 4);
-            if reads::test(nodes, values, today, at + 1) {
-                step_plan(
-                    nodes,
-                    values,
-                    bounds,
-                    span,
-                    today,
-                    pair,
-                    count,
-                    second,
-                    third,
-                    left - 1,
-                )
+            let second = nodes::link(nodes, at, 3);
+            let third = nodes::link(nodes, at, 4);
+            if reads::test(nodes, &day.values, day.today, at + 1) {
+                step_plan(nodes, day, count, second, third, left - 1)
             } else {
-                let wait = reads::delay(nodes, at);
+                let wait = nodes::delay(nodes, at);
                 if offsets::due(wait) {
-                    step_plan(
-                        nodes,
-                        values,
-                        bounds,
-                        span,
-                        today,
-                        pair,
-                        count,
-                        third,
-                        to,
-                        left - 1,
-                    )
+                    step_plan(nodes, day, count, third, to, left - 1)
                 } else {
-                    keep_waiting(nodes, span, count, at, to)
+                    keep_waiting(nodes, day.span, count, at, to)
                 }
             }
         }

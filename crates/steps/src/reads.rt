@@ -1,5 +1,5 @@
-// What is read of a table that is written to: it is lent as a slice, and each reading lends it on.
-ghost use Rattle.std.specs.Prelude.{◌≡◌, ◌*◌, ◌≤◌, pos, length};
+// What is read of a table that is written to: it is lent as a slice, and each reading lends it on as the one pointer that the walks below take.
+ghost use Rattle.std.specs.Prelude.{◌≡◌, ◌*◌, ◌≤◌, length};
 ghost use Rattle.amounts.specs.Fine.{Fine, FineTest, MonthIn};
 ghost use Rattle.amounts.specs.Flat.{flat};
 ghost use Rattle.language.specs.Calls.{sign_of};
@@ -10,33 +10,9 @@ ghost use Rattle.nodes.specs.Stands.{AmountStands, TestStands};
 ghost use Rattle.nodes.specs.Table.{RowIn, nat_of, slot_at};
 ghost use Rattle.pays.specs.Parties.{PairIn};
 
+use amounts::Tables;
 use integers::{Month, Pence};
-use measures::node;
 use pays::{Pair, transfer};
-
-// The label of an `O`.
-pub fn label(nodes: &[i64], at: usize) -> usize
-    requires { RowIn nodes.now at }
-    ensures { result ≡ nat_of (slot_at nodes.now at 1) }
-{
-    node::label(&nodes, at)
-}
-
-// The offset of an `O`.
-pub fn offset(nodes: &[i64], at: usize) -> Month
-    requires { RowIn nodes.now at }
-    ensures { result.0 ≡ slot_at nodes.now at 2 }
-{
-    node::offset(&nodes, at)
-}
-
-// The delay of an `L` or a `W`.
-pub fn delay(nodes: &[i64], at: usize) -> Month
-    requires { RowIn nodes.now at }
-    ensures { result.0 ≡ pos (nat_of (slot_at nodes.now at 1)) }
-{
-    node::delay(&nodes, at)
-}
 
 // What a `T` pays the pair.
 pub fn penny(nodes: &[i64], at: usize, pair: Pair) -> Pence
@@ -51,7 +27,15 @@ pub fn amount(nodes: &[i64], values: &&[i64], month: Month, at: usize, to: usize
     requires { MonthIn month.0 × AmountStands 512 nodes.now at × Fine values.now.now (nat_of month.0) (amount_at offset_of 512 nodes.now at) × AmountBlock 512 nodes.now at to × (to ≤ 512) × (5 * to ≤ length nodes.now) }
     ensures { result.0 ≡ value (flat values.now.now) (amount_at offset_of 512 nodes.now at) (nat_of month.0) }
 {
-    backwards::amount_in(&nodes, values, month, at, to)
+    backwards::amount_in(
+        &Tables {
+            nodes,
+            values: *values,
+        },
+        month,
+        at,
+        to,
+    )
 }
 
 // Whether the test at a node holds in a month.
@@ -59,5 +43,9 @@ pub fn test(nodes: &[i64], values: &&[i64], month: Month, at: usize) -> bool
     requires { MonthIn month.0 × TestStands 512 nodes.now at × FineTest values.now.now (nat_of month.0) (test_at offset_of 512 nodes.now at) }
     ensures { result ≡ holds (flat values.now.now) (test_at offset_of 512 nodes.now at) (nat_of month.0) }
 {
-    amounts::test_holds(&nodes, values, month, at, 512)
+    let tables = Tables {
+        nodes,
+        values: *values,
+    };
+    tables.test_holds(month, at, 512)
 }

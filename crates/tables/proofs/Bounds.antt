@@ -1,15 +1,13 @@
 -- A bound's range: no further from zero than the bound.
-use Rattle.std.proofs.Common.{◌≡◌, ℕ, zero, suc, ◌≤◌, Bool, true, false, ◌&&◌, leb, ℤ, pos, negsuc, ◌-ℤ◌, neg_ℤ, nat_abs, refl, ap, ◌∙◌, arith, to_z-of_z, w64, SFits, le-leb, leb-false, leb-true}
+use Rattle.std.proofs.Common.{◌≡◌, ℕ, zero, suc, Bool, true, false, ◌&&◌, leb, ℤ, pos, negsuc, ◌-ℤ◌, neg_ℤ, nat_abs, refl, ap, ◌∙◌, arith, to_z-of_z, w64, SFits, le-leb, leb-false, leb-true}
 use borrow.Author.Tests.{lt-leb}
 use lib.IntN.{sub_ℕ}
-use lib.Signed.{le_z}
 use mathlib.Core.Bool.{false≢true}
 use Rattle.integers.proofs.Locals.{rd}
 use Rattle.integers.proofs.Solver.{eq_parts, sub_parts}
 use Rattle.language.specs.Limits.{max_amount}
 use Rattle.language.specs.Text.Number.{between}
 use Rattle.tables.proofs.Spans.{both_true}
-use Rattle.tables.specs.Words.{Narrow}
 
 nearer_below : (n m : ℕ) (b : Bool) → leb n m ≡ b → leb (suc n) (suc m) ≡ b && true
 nearer_below n m true e = le-leb (suc n) (suc m) (omega (arith, leb-true n m e))
@@ -26,18 +24,6 @@ nearer (pos m) v e = nearer_by m v
 nearer (negsuc m) v e = absurd (false≢true e)
 
 -- ---- the least number of the range, as the code forms it
-opposite_ordered : (b : ℤ) → between (pos 0) (pos max_amount) b ≡ true → le_z (neg_ℤ b) b ≡ true
-opposite_ordered (pos zero) e = refl
-opposite_ordered (pos (suc m)) e = refl
-opposite_ordered (negsuc m) e = absurd (false≢true e)
-
-opposite_near : (b : ℤ) → between (pos 0) (pos max_amount) b ≡ true → (nat_abs (neg_ℤ b) ≤ max_amount) × (nat_abs b ≤ max_amount)
-opposite_near (pos zero) e = (omega arith, omega arith)
-opposite_near (pos (suc m)) e =
-    let h = leb-true (suc m) max_amount (both_true (leb 0 (suc m)) (leb (suc m) max_amount) e).1 in
-    (omega (arith, h), h)
-opposite_near (negsuc m) e = absurd (false≢true e)
-
 negated : (b : ℤ) → between (pos 0) (pos max_amount) b ≡ true → pos 0 -ℤ b ≡ neg_ℤ b
 negated (pos zero) e = refl
 negated (pos (suc m)) e = eq_parts (sub_ℕ 0 (suc m)) (negsuc m) (omega (arith, sub_parts 0 (suc m)))
@@ -52,11 +38,8 @@ module _ (b : ℤ) (f : SFits w64 b) (e : between (pos 0) (pos max_amount) b ≡
   opposite_is : pos 0 -ℤ rd b ≡ neg_ℤ b
   opposite_is = ap (λ z. pos 0 -ℤ z) (to_z-of_z f) ∙ negated b e
 
-  pub opposite_fits : SFits w64 (pos 0 -ℤ rd b)
+  opposite_fits : SFits w64 (pos 0 -ℤ rd b)
   opposite_fits = rw opposite_is (negated_fits b e)
 
   pub opposite_reads : rd (pos 0 -ℤ rd b) ≡ neg_ℤ b
   opposite_reads = to_z-of_z opposite_fits ∙ opposite_is
-
-  pub narrow : Narrow (rd (pos 0 -ℤ rd b)) (rd b)
-  narrow = rw (opposite_reads, to_z-of_z f) (opposite_ordered b e, (opposite_near b e).0, (opposite_near b e).1)

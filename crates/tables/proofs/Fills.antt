@@ -11,8 +11,8 @@ use Rattle.nodes.proofs.Passes.{row_kept, set_in_row}
 use Rattle.nodes.specs.Pass.{row_from}
 use Rattle.tables.proofs.Spans.{both_true}
 use Rattle.tables.specs.Fill.{RowIs, SlotIs, fill_delay, fill_row, has_delay, row_set}
-use Rattle.tables.specs.declared.fill.Filling.{Filling}
-use Rattle.tables.specs.declared.fill.Filling.TheVariants.{Filled, Unset}
+use Rattle.std.specs.Prelude.{Err, Ok, Result}
+use Rattle.tables.specs.declared.fill.Unset.{Unset}
 
 -- what holds of every element holds of one
 pub all_at : (p : ℤ → Bool) (xs : List ℤ) → all_of p xs ≡ true → (k : ℕ) → k < length xs → p (get_or xs k (pos 0)) ≡ true
@@ -35,22 +35,22 @@ far_from_zero (negsuc n) m e h = omega arith
 
 module _ (days nodes : List ℤ) (at : ℕ) where
   module _ (m : ℕ) (below : lt_z (get_or nodes at (pos 0)) (pos 0) ≡ true) (far : m ≡ nat_abs (get_or nodes at (pos 0))) where
-    pub open_filled : are_settings days ≡ true → m - 1 < length days → (v : ℤ) → v ≡ get_or days (m - 1) (pos 0) → SlotIs days at nodes (set nodes at v) Filled
+    pub open_filled : are_settings days ≡ true → m - 1 < length days → (v : ℤ) → v ≡ get_or days (m - 1) (pos 0) → SlotIs days at nodes (set nodes at v) (Ok _)
     unfolding are_settings delay_set fill_delay delay_of
     open_filled ok h v e =
         let z = below_zero (get_or nodes at (pos 0)) m below far in
         let n = natural (get_or days (m - 1) (pos 0)) (all_at (between (pos 0) (pos max_months)) days (both_true (leb (length days) max_settings) (all_of (between (pos 0) (pos max_months)) days) ok).1 (m - 1) h) in
         (rw (z, lt-ltb (m - 1) (length days) h) refl, ap (set nodes at) (e ∙ sym n) ∙ rw z refl)
 
-    pub open_unset : length days ≤ m - 1 → SlotIs days at nodes nodes Unset
+    pub open_unset : length days ≤ m - 1 → SlotIs days at nodes nodes (Err _)
     unfolding delay_set
     open_unset h = rw (below_zero (get_or nodes at (pos 0)) m below far, le-ltb (m - 1) (length days) h) refl
 
-  pub plain_kept : lt_z (get_or nodes at (pos 0)) (pos 0) ≡ false → SlotIs days at nodes nodes Filled
+  pub plain_kept : lt_z (get_or nodes at (pos 0)) (pos 0) ≡ false → SlotIs days at nodes nodes (Ok _)
   unfolding delay_set fill_delay delay_of
   plain_kept e = go (get_or nodes at (pos 0)) refl e
     where
-      go : (z : ℤ) → get_or nodes at (pos 0) ≡ z → lt_z z (pos 0) ≡ false → SlotIs days at nodes nodes Filled
+      go : (z : ℤ) → get_or nodes at (pos 0) ≡ z → lt_z z (pos 0) ≡ false → SlotIs days at nodes nodes (Ok _)
       go (pos n) d e = (rw d refl, sym (set-get_or nodes at (pos 0)) ∙ rw d refl)
       go (negsuc n) d e = absurd (true≢false e)
 
@@ -68,15 +68,15 @@ in_row at nodes k h = get_or-take 5 (drop at nodes) k (pos 0) h ∙ get_or-drop 
 
 module _ (days : List ℤ) (at : ℕ) (nodes : List ℤ) where
   -- a row with a delay, by what became of the delay
-  pub row_delay : (after : List ℤ) (r : Filling) → at + 5 ≤ length nodes → has_delay (row_from at nodes) ≡ true → SlotIs days (at + 1) nodes after r → RowIs days at nodes after r
+  pub row_delay : (after : List ℤ) (r : Result Unit Unset) → at + 5 ≤ length nodes → has_delay (row_from at nodes) ≡ true → SlotIs days (at + 1) nodes after r → RowIs days at nodes after r
   unfolding row_set fill_row
-  row_delay after Filled h e s = (
+  row_delay after (Ok _) h e s = (
     rw (e, in_row at nodes 1 (omega arith)) s.0,
     s.1 ∙ set_in_row at 1 (fill_delay days (get_or nodes (at + 1) (pos 0))) nodes (omega arith) h ∙ rw (e, in_row at nodes 1 (omega arith)) refl,
   )
-  row_delay after Unset h e s = rw (e, in_row at nodes 1 (omega arith)) s
+  row_delay after (Err _) h e s = rw (e, in_row at nodes 1 (omega arith)) s
 
-  pub row_without : has_delay (row_from at nodes) ≡ false → RowIs days at nodes nodes Filled
+  pub row_without : has_delay (row_from at nodes) ≡ false → RowIs days at nodes nodes (Ok _)
   unfolding row_set fill_row
   row_without e = (rw e refl, row_kept at nodes ∙ rw e refl)
 

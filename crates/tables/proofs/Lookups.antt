@@ -10,8 +10,7 @@ use Rattle.language.specs.Limits.{max_labels}
 use Rattle.language.specs.Rules.Table.{readable, value_at}
 use Rattle.language.specs.Text.Number.{between}
 use Rattle.tables.specs.Lookup.{Inside, Kept, KeptSpan, looked_up, place_for, read_table, standing}
-use Rattle.tables.specs.declared.lookup.Place.{Place}
-use Rattle.tables.specs.declared.lookup.Place.TheVariants.{At, Nowhere}
+use Rattle.std.specs.Prelude.{None, Option, Some}
 
 none_below : (z : ℤ) → lt_z z (pos 0) ≡ false → dn z ≡ 0
 none_below (pos n) e = refl
@@ -46,13 +45,13 @@ natural (pos n) h = refl
 natural (negsuc n) h = absurd h
 
 module _ (h f : ℤ) (bounds : List ℤ) (k : KeptSpan h f) (label : ℕ) (m : ℤ) where
-  abbrev place : Place
+  abbrev place : Option ℕ
   place = place_for h f bounds label m
 
   abbrev count : ℕ
   count = nat_abs h + nat_abs f + 1
 
-  pub no_label : length bounds ≤ label → Nowhere ≡ place
+  pub no_label : length bounds ≤ label → None ≡ place
   unfolding place_for
   no_label l = rw (le-ltb label (length bounds) l) refl
 
@@ -64,7 +63,7 @@ module _ (h f : ℤ) (bounds : List ℤ) (k : KeptSpan h f) (label : ℕ) (m : �
     covers : {b : Bool} → between (neg_ℤ (pos (nat_abs h))) (pos (nat_abs f)) m ≡ b → readable (read_table h f bounds []) label m ≡ b
     covers {b} c = rw (lt-ltb label (length bounds) l, natural h k.h_from, natural f k.f_from) c
 
-    pub too_early : lt_z p (pos 0) ≡ true → Nowhere ≡ place
+    pub too_early : lt_z p (pos 0) ≡ true → None ≡ place
     unfolding place_for
     too_early c = rw (covers (before (nat_abs h) (nat_abs f) m (rw shifted at c))) refl
 
@@ -76,7 +75,7 @@ module _ (h f : ℤ) (bounds : List ℤ) (k : KeptSpan h f) (label : ℕ) (m : �
           go (pos n) c = tt
           go (negsuc n) c = absurd (true≢false c)
 
-      pub too_late : count ≤ nat_abs p → Nowhere ≡ place
+      pub too_late : count ≤ nat_abs p → None ≡ place
       unfolding place_for
       too_late d = rw (covers (behind (nat_abs h) (nat_abs f) m (rw shifted at c) (rw shifted at d))) refl
 
@@ -84,9 +83,9 @@ module _ (h f : ℤ) (bounds : List ℤ) (k : KeptSpan h f) (label : ℕ) (m : �
         pub few : length bounds ≤ max_labels → label * count + nat_abs p ≤ 10_000
         few n = omega (arith, mul-le-mul {n₁ = label} {m₁ = count} {n₂ = max_labels} {m₂ = 661} (omega arith) (omega (arith, k.h_to, k.f_to)), k.h_to, k.f_to)
 
-        pub stands : (i : ℕ) → i ≡ label * count + nat_abs p → At i ≡ place
+        pub stands : (i : ℕ) → i ≡ label * count + nat_abs p → Some i ≡ place
         unfolding place_for
-        stands i g = let r = covers (inside (nat_abs h) (nat_abs f) m (rw shifted at c) (rw shifted at d)) in rw r (ap At (g ∙ ap (λ z. label * count + nat_abs z) e))
+        stands i g = let r = covers (inside (nat_abs h) (nat_abs f) m (rw shifted at c) (rw shifted at d)) in rw r (ap Some (g ∙ ap (λ z. label * count + nat_abs z) e))
 
 not_below : (n : ℕ) → lt_z (pos n) (pos 0) ≡ false
 not_below n = go (lt_z (pos n) (pos 0)) refl
@@ -95,10 +94,10 @@ not_below n = go (lt_z (pos n) (pos 0)) refl
     go false e = refl
     go true e = absurd (omega (arith, lt_true (pos n) (pos 0) e))
 
-pub nowhere_at : (i : ℕ) → Nowhere ≡ At i → ⊥
+pub nowhere_at : (i : ℕ) → None ≡ Some i → ⊥
 nowhere_at i e = let z : ◌≡◌ {A = ℕ} 0 1 = cc in omega arith
 
-pub at_injective : {i j : ℕ} → At j ≡ At i → i ≡ j
+pub at_injective : {i j : ℕ} → Some j ≡ Some i → i ≡ j
 at_injective e = cc
 
 -- ---- four months in a row: k months after a month whose distance from -h is p
@@ -110,7 +109,7 @@ module _ (h f : ℤ) (bounds : List ℤ) (s : KeptSpan h f) (label : ℕ) (m : �
   onward : (k : ℕ) → p +ℤ pos k ≡ pos (nat_abs p + k)
   onward k = ap (λ z. z +ℤ pos k) (natural p (from_zero h f bounds s label m l p e c))
 
-  pub stands_on : (n : ℕ) → n ≡ nat_abs h + nat_abs f + 1 → nat_abs p + 3 < n → (i : ℕ) → i ≡ label * n + nat_abs p → (k : ℕ) → k < 4 → At (i + k) ≡ place_for h f bounds label (m +ℤ pos k)
+  pub stands_on : (n : ℕ) → n ≡ nat_abs h + nat_abs f + 1 → nat_abs p + 3 < n → (i : ℕ) → i ≡ label * n + nat_abs p → (k : ℕ) → k < 4 → Some (i + k) ≡ place_for h f bounds label (m +ℤ pos k)
   stands_on n en d i ei k b =
       let q : nat_abs (p +ℤ pos k) ≡ nat_abs p + k = ap nat_abs (onward k) in
       let z : lt_z (p +ℤ pos k) (pos 0) ≡ false = rw (onward k) (not_below (nat_abs p + k)) in
@@ -131,7 +130,7 @@ module _ (h f : ℤ) (bounds values : List ℤ) (k : Kept h f bounds values) (la
   unfolding place_for Inside
   place_inside = go (ltb label (length bounds)) (between (neg_ℤ h) f m) refl refl
     where
-      go : (s u : Bool) → ltb label (length bounds) ≡ s → between (neg_ℤ h) f m ≡ u → Inside (length values) (cond (s && u) (At (label * (nat_abs h + nat_abs f + 1) + nat_abs (m +ℤ h))) Nowhere)
+      go : (s u : Bool) → ltb label (length bounds) ≡ s → between (neg_ℤ h) f m ≡ u → Inside (length values) (cond (s && u) (Some (label * (nat_abs h + nat_abs f + 1) + nat_abs (m +ℤ h))) None)
       go false u es eu = tt
       go true false es eu = tt
       go true true es eu =
@@ -144,7 +143,7 @@ module _ (h f : ℤ) (bounds values : List ℤ) (k : Kept h f bounds values) (la
   unfolding place_for standing looked_up value_at
   place_standing = go (readable (read_table h f bounds values) label m)
     where
-      go : (b : Bool) → standing values (cond b (At (label * (nat_abs h + nat_abs f + 1) + nat_abs (m +ℤ h))) Nowhere)
+      go : (b : Bool) → standing values (cond b (Some (label * (nat_abs h + nat_abs f + 1) + nat_abs (m +ℤ h))) None)
           ≡ cond b (got (cond b (get_or values (label * (nat_abs h + nat_abs f + 1) + nat_abs (m +ℤ h)) (pos 0)) (pos 0))) (refused 11)
       go true = refl
       go false = refl

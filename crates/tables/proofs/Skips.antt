@@ -12,7 +12,7 @@ use Rattle.tables.proofs.Fills.{fill_keeps_size, in_row, row_without}
 use Rattle.tables.proofs.Spans.{both_true}
 use Rattle.tables.specs.Fill.{RowIs, fill_delay, fill_row, has_delay, row_set}
 use Rattle.tables.specs.Skips.{Leads, Skips, plan_step, without_delay}
-use Rattle.tables.specs.declared.fill.Filling.TheVariants.{Filled}
+use Rattle.std.specs.Prelude.{Ok}
 
 -- ---- how far a row leads
 
@@ -113,7 +113,7 @@ module _ (days : List ℤ) (count : ℕ) (before : List ℤ) where
       unfolding Skips
       here = let n : count - i ≡ suc (count - (i + 1)) = omega arith in rw n at h.ahead
 
-      module _ (after : List ℤ) (filled : RowIs days (5 * i) now after Filled) where
+      module _ (after : List ℤ) (filled : RowIs days (5 * i) now after (Ok _)) where
         five : length (fill_row days (row_from (5 * i) now)) ≡ 5
         five = fill_keeps_size days (row_from (5 * i) now) ∙ row_size (5 * i) now turning_room
 

@@ -1,53 +1,13 @@
 -- A number's 64 bits, and a range tested by one comparison of them.
-use Rattle.std.proofs.Common.{◌≡◌, ℕ, suc, ◌+◌, ◌-◌, ◌%◌, ◌<◌, ◌≤◌, Bool, true, false, cond, ◌&&◌, leb, ℤ, pos, negsuc, ◌+ℤ◌, nat_abs, sym, refl, ap, ◌∙◌, arith, to_z-of_z, w64, Fits, SFits, le-leb, leb-false, leb-true}
+use Rattle.std.proofs.Common.{◌≡◌, ℕ, ◌+◌, ◌%◌, ◌<◌, ◌≤◌, Bool, true, false, cond, ◌&&◌, leb, ℤ, pos, negsuc, nat_abs, sym, refl, ap, ◌∙◌, arith, to_z-of_z, w64, SFits, le-leb, leb-false, leb-true}
 use borrow.Author.Tests.{lt-leb}
 use lib.Bits.{and_le_r, bit_or, or_add_and, or_comm, or_lt}
-use lib.Signed.{le_z, lt_z}
+use lib.Signed.{le_z}
 use Rattle.integers.proofs.Locals.{rd}
-use Rattle.integers.proofs.Negation.{add_reads}
-use Rattle.integers.proofs.Solver.{◌⊕◌, dn, lit, ring, up, var}
-use Rattle.integers.proofs.Tests.{le_false, le_true, lt_false, lt_true}
+use Rattle.integers.proofs.Solver.{dn, up}
+use Rattle.integers.proofs.Tests.{le_false, le_true}
 use Rattle.language.specs.Text.Number.{between}
 use Rattle.tables.specs.Words.{Narrow, word_of}
-
--- ---- a number below zero, lifted by 2 ^ 63 and once more
-lifted : (x : ℤ) → SFits w64 x → lt_z x (pos 0) ≡ true → x +ℤ pos 1 +ℤ pos 9223372036854775807 ≡ pos (9223372036854775808 - nat_abs x)
-lifted (pos a) f e = absurd (omega (arith, lt_true (pos a) (pos 0) e))
-lifted (negsuc a) f e = ring (var (negsuc a) ⊕ lit 1 ⊕ lit 9223372036854775807) (lit (9223372036854775808 - suc a)) (omega (arith, f.sfits))
-
-word_below : (x : ℤ) → SFits w64 x → lt_z x (pos 0) ≡ true → 9223372036854775808 - nat_abs x + 9223372036854775808 ≡ word_of x
-word_below (pos a) f e = absurd (omega (arith, lt_true (pos a) (pos 0) e))
-word_below (negsuc a) f e = omega (arith, f.sfits)
-
-some_below : (x : ℤ) → lt_z x (pos 0) ≡ true → 0 < nat_abs x
-some_below (pos a) e = absurd (omega (arith, lt_true (pos a) (pos 0) e))
-some_below (negsuc a) e = omega arith
-
-module _ (x : ℤ) (f : SFits w64 x) (e : lt_z (rd x) (pos 0) ≡ true) where
-  below : lt_z x (pos 0) ≡ true
-  below = rw (to_z-of_z f) at e
-
-  reads : rd (rd x +ℤ pos 1) +ℤ pos 9223372036854775807 ≡ pos (9223372036854775808 - nat_abs x)
-  reads = ap (λ z. z +ℤ pos 9223372036854775807) (add_reads x f e) ∙ lifted x f below
-
-  pub lifted_fits : SFits w64 (rd (rd x +ℤ pos 1) +ℤ pos 9223372036854775807)
-  lifted_fits = rw reads (record { sfits = omega (arith, some_below x below) })
-
-  pub lifted_reads : rd (rd (rd x +ℤ pos 1) +ℤ pos 9223372036854775807) ≡ pos (9223372036854775808 - nat_abs x)
-  lifted_reads = to_z-of_z lifted_fits ∙ reads
-
-  pub lifted_bits : Fits w64 (9223372036854775808 - nat_abs x)
-  lifted_bits = record { fits = omega arith }
-
-  pub word_fits : Fits w64 (9223372036854775808 - nat_abs x + 9223372036854775808)
-  word_fits = record { fits = omega (arith, some_below x below) }
-
-  pub word_is : 9223372036854775808 - nat_abs x + 9223372036854775808 ≡ word_of x
-  word_is = word_below x f below
-
-pub word_above : (x : ℤ) → SFits w64 x → lt_z (rd x) (pos 0) ≡ false → nat_abs (rd x) ≡ word_of x
-word_above (pos a) f e = ap nat_abs (to_z-of_z f)
-word_above (negsuc a) f e = absurd (omega (arith, lt_false (negsuc a) (pos 0) (rw (to_z-of_z f) at e)))
 
 -- ---- how far x lies above low, round the whole circle of words
 apart : (low x : ℤ) (r : ℕ) → SFits w64 low → SFits w64 x → r < 18446744073709551616 → (r + word_of low) % 18446744073709551616 ≡ word_of x

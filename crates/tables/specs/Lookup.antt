@@ -1,22 +1,19 @@
 -- A label's value in a month, or refusal 11.
-use Rattle.std.specs.Prelude.{◌≡◌, ℕ, ◌+◌, ◌*◌, ◌<◌, ◌≤◌, cond, T, List, [], length, ℤ, pos, ◌+ℤ◌, slice_index_or, unsigned_abs}
+use Rattle.std.specs.Prelude.{◌≡◌, ℕ, ◌+◌, ◌*◌, ◌<◌, ◌≤◌, cond, T, List, [], length, ℤ, pos, ◌+ℤ◌, slice_index_or, unsigned_abs, None, Option, Some}
 use Rattle.std.specs.Int.Signed.{non_neg}
 use Rattle.language.specs.Answer.{Answer, got, refused}
 use Rattle.language.specs.Limits.{max_back, max_labels, max_months}
 use Rattle.language.specs.Rules.Table.{Table, readable, span, value_at}
 use Rattle.tables.specs.Given.{table_of}
-use Rattle.tables.specs.declared.lookup.Found.{Found}
-use Rattle.tables.specs.declared.lookup.Found.TheVariants.{Outside, Value}
-use Rattle.tables.specs.declared.lookup.Place.{Place}
-use Rattle.tables.specs.declared.lookup.Place.TheVariants.{At, Nowhere}
+use Rattle.integers.specs.declared.Pence.{Pence}
 
 -- "a read month outside -h to f .. or an absent label" is 11
 unfoldable pub looked_up : Table → ℕ → ℤ → Answer ℤ
 looked_up t l m = cond (readable t l m) (got (value_at t l m)) (refused 11)
 
-unfoldable pub found_answer : Found → Answer ℤ
-found_answer (Value p) = got p.0
-found_answer Outside = refused 11
+unfoldable pub found_answer : Option Pence → Answer ℤ
+found_answer (Some p) = got p.0
+found_answer None = refused 11
 
 -- a lookup takes h, f, bounds and values
 abbrev pub read_table : ℤ → ℤ → List ℤ → List ℤ → Table
@@ -25,18 +22,18 @@ read_table h f bounds values = table_of h f [] bounds values
 -- ---- places
 
 -- where the value of label l in month m stands among the values of a table that covers months -h to f
-unfoldable pub place_for : ℤ → ℤ → List ℤ → ℕ → ℤ → Place
-place_for h f bounds l m = let t = read_table h f bounds [] in cond (readable t l m) (At (l * span t + unsigned_abs (m +ℤ h))) Nowhere
+unfoldable pub place_for : ℤ → ℤ → List ℤ → ℕ → ℤ → Option ℕ
+place_for h f bounds l m = let t = read_table h f bounds [] in cond (readable t l m) (Some (l * span t + unsigned_abs (m +ℤ h))) None
 
 -- a place among n values
-unfoldable pub Inside : ℕ → Place → Type 0
-Inside n (At i) = i < n
-Inside n Nowhere = Unit {0}
+unfoldable pub Inside : ℕ → Option ℕ → Type 0
+Inside n (Some i) = i < n
+Inside n None = Unit {0}
 
 -- what stands there; no place is 11
-unfoldable pub standing : List ℤ → Place → Answer ℤ
-standing values (At i) = got (slice_index_or values i (pos 0))
-standing values Nowhere = refused 11
+unfoldable pub standing : List ℤ → Option ℕ → Answer ℤ
+standing values (Some i) = got (slice_index_or values i (pos 0))
+standing values None = refused 11
 
 -- ---- ranges
 

@@ -4,34 +4,43 @@ ghost use Rattle.language.specs.Rules.Table.{are_settings};
 ghost use Rattle.nodes.specs.Pass.{row_from};
 ghost use Rattle.tables.specs.Fill.{FillIs, RowIs, SlotIs};
 ghost use Rattle.tables.specs.Skips.{Skips, plan_step};
+ghost use Rattle.text.specs.declared.Refusal.TheVariants.{Settings};
+
+use text::Refusal;
 
 #[derive(Clone, Copy)]
-pub enum Filling {
-    Filled,
-    Unset,
+pub struct Unset;
+
+// Document 01's 8.
+impl From<Unset> for Refusal {
+    ghost from_gives = { λ _ k. k ≡ Settings };
+
+    fn from(_unset: Unset) -> Refusal {
+        Refusal::Settings
+    }
 }
 
 // One delay.
-pub fn fill_slot(nodes: &mut [i64], at: usize, days: &[i64]) -> Filling
+pub fn fill_slot(nodes: &mut [i64], at: usize, days: &[i64]) -> Result<(), Unset>
     requires { (at < length nodes.old) × (are_settings days.now ≡ true) }
     ensures { SlotIs days.now at nodes.old nodes.new result }
 {
     let d = nodes[at];
     if d < 0 {
-        let k = (integers::magnitude(d) - 1) as usize;
+        let k = (d.unsigned_abs() - 1) as usize;
         if k < days.len() {
             nodes[at] = days[k];
-            Filling::Filled
+            Ok(())
         } else {
-            Filling::Unset
+            Err(Unset)
         }
     } else {
-        Filling::Filled
+        Ok(())
     }
 }
 
 // The delay of a row that has one.
-pub fn fill_row(nodes: &mut [i64], at: usize, days: &[i64]) -> Filling
+pub fn fill_row(nodes: &mut [i64], at: usize, days: &[i64]) -> Result<(), Unset>
     requires { (at + 5 ≤ length nodes.old) × (are_settings days.now ≡ true) }
     ensures { RowIs days.now at nodes.old nodes.new result }
 {
@@ -39,7 +48,7 @@ pub fn fill_row(nodes: &mut [i64], at: usize, days: &[i64]) -> Filling
     match letter {
         76 => fill_slot(nodes, at + 1, days),
         87 => fill_slot(nodes, at + 1, days),
-        _ => Filling::Filled,
+        _ => Ok(()),
     }
 }
 
@@ -56,21 +65,15 @@ fn next_plan(nodes: &[i64], i: usize) -> usize
     }
 }
 
-// The delays of the first rows.
-pub fn fill_rows(nodes: &mut [i64], count: usize, days: &[i64]) -> Filling
+// The delays of the first rows. Not a `for`: a step passes over the rows of an amount or a test.
+pub fn fill_rows(nodes: &mut [i64], count: usize, days: &[i64]) -> Result<(), Unset>
     requires { (5 * count ≤ length nodes.old) × (are_settings days.now ≡ true) × Skips count nodes.old }
     ensures { FillIs days.now count nodes.old nodes.new result }
 {
     let mut i = 0;
     while i < count {
-        match fill_row(nodes, 5 * i, days) {
-            Filling::Filled => {
-                i = next_plan(nodes, i);
-            }
-            Filling::Unset => {
-                return Filling::Unset;
-            }
-        }
+        fill_row(nodes, 5 * i, days)?;
+        i = next_plan(nodes, i);
     }
-    Filling::Filled
+    Ok(())
 }

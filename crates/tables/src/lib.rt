@@ -9,6 +9,7 @@ ghost use Rattle.tables.specs.Given.{table_of};
 ghost use Rattle.tables.specs.Words.{Narrow, word_of};
 
 pub mod fill;
+pub mod given;
 pub mod lookup;
 
 // The whole numbers from low to high.
@@ -28,11 +29,7 @@ pub fn is_between(x: i64, range: Range) -> bool
 fn word(x: i64) -> u64
     ensures { result ≡ word_of x }
 {
-    if x < 0 {
-        (x + 1 + 9_223_372_036_854_775_807) as u64 + 9_223_372_036_854_775_808
-    } else {
-        x as u64
-    }
+    x.cast_unsigned()
 }
 
 // The greatest word whose first bit is 0.
@@ -46,21 +43,19 @@ fn both_between(xs: &[i64], ys: &[i64], range: Range) -> bool
     ensures { result ≡ all_of (between range.low range.high) xs.now && all_of (between range.low range.high) ys.now }
 {
     let first = word(range.low);
-    let width = std::num::wrapping_sub_u64(word(range.high), first);
+    let width = word(range.high).wrapping_sub(first);
     // Less this, the range's last is the greatest word whose first bit is 0. What is added in its place the compiler would first add to
     // what `first` takes away, and then copy every number to have both sums of it.
-    let over = std::num::wrapping_sub_u64(width, LAST);
+    let over = width.wrapping_sub(LAST);
     let mut below = 0u64;
     let mut above = 0u64;
-    let mut i = 0;
-    while i < xs.len() {
-        let y = std::num::wrapping_sub_u64(word(xs[i]), first);
-        below = below | y;
-        above = above | std::num::wrapping_sub_u64(y, over);
-        let z = std::num::wrapping_sub_u64(word(ys[i]), first);
-        below = below | z;
-        above = above | std::num::wrapping_sub_u64(z, over);
-        i += 1;
+    for (x, y) in xs.iter().zip(ys) {
+        let a = word(*x).wrapping_sub(first);
+        below |= a;
+        above |= a.wrapping_sub(over);
+        let b = word(*y).wrapping_sub(first);
+        below |= b;
+        above |= b.wrapping_sub(over);
     }
     (below | above) <= LAST
 }
@@ -114,19 +109,13 @@ pub fn values_bounded(n: usize, bounds: &[i64], values: &[i64]) -> bool
     requires { (length values.now ≡ length bounds.now * n) × (all_of (between (pos 0) (pos max_amount)) bounds.now ≡ true) }
     ensures { result ≡ are_bounded n bounds.now values.now }
 {
-    let mut k = 0;
-    let mut at = 0;
-    while k < bounds.len() {
-        let end = at + n;
-        let bound = bounds[k];
+    for (k, bound) in bounds.iter().enumerate() {
+        let at = k * n;
         let range = Range {
-            low: 0 - bound,
-            high: bound,
+            low: -*bound,
+            high: *bound,
         };
-        if all_between(&values[at..end], range) {
-            k += 1;
-            at = end;
-        } else {
+        if !all_between(&values[at..at + n], range) {
             return false;
         }
     }

@@ -1,12 +1,12 @@
 -- Laws of the letters that a text has.
-use Prim.Native.Nat.{◌+◌, ◌<◌, ◌≤◌, suc, zero, ℕ}
+use Prim.Native.Nat.{◌%◌, ◌+◌, ◌-◌, ◌<◌, ◌≤◌, suc, zero, ℕ}
 use borrow.Author.Tests.{le-leb}
 use lib.Dec.{eqb, leb}
-use lib.ListN.{drop, drop_of_length-le, get_or, length, take}
-use lib.Seq.{drop-cons}
+use lib.ListN.{drop, drop_of_length-le, get_or, length, length-append, take}
+use lib.Seq.{drop-cons, drop-drop, drop_at}
 use mathlib.Core.Bool.{Bool, ◌||◌, cond, false, true}
-use mathlib.Core.List.{List, [], ◌∷◌}
-use mathlib.Core.Path.{◌∙◌, ◌≡◌, ap, refl}
+use mathlib.Core.List.{List, [], ◌++◌, ◌∷◌}
+use mathlib.Core.Path.{◌∙◌, ◌≡◌, ap, refl, sym}
 use native.Mathlib.Numerals.{add-one}
 use native.Mathlib.Omega.{arith}
 use Rattle.fields.specs.Positions.{up_to}
@@ -62,17 +62,44 @@ letters_few [] = omega arith
 letters_few (b ∷ bs) = omega (arith, once_at_most (leb (byte "A") b), letters_few bs)
 
 -- one byte on
-pub letters_next : (text : List ℕ) (from i found : ℕ) → i < length text → letters_in (drop from text) ≡ found + letters_in (drop i text)
-    → (more : ℕ) → more ≡ cond (leb (byte "A") (get_or text i 0)) 1 0 → letters_in (drop from text) ≡ found + more + letters_in (drop (i + 1) text)
+pub letters_at : (text : List ℕ) (i : ℕ) → i < length text → letters_in (drop i text) ≡ cond (leb (byte "A") (get_or text i 0)) 1 0 + letters_in (drop (i + 1) text)
 unfolding letters_in
-letters_next text from i found h e more q =
-    let d : letters_in (drop i text) ≡ cond (leb (byte "A") (get_or text i 0)) 1 0 + letters_in (drop (suc i) text) = ap letters_in (drop-cons text i 0 h) in
-    e ∙ rw (add-one i) (omega (arith, d, q))
+letters_at text i h = ap letters_in (drop-cons text i 0 h) ∙ rw (add-one i) refl
 
 -- at the end
-pub letters_end : (text : List ℕ) → letters_in (drop (length text) text) ≡ 0
+pub letters_end : (text : List ℕ) (i : ℕ) → length text ≤ i → letters_in (drop i text) ≡ 0
 unfolding letters_in
-letters_end text = rw (drop_of_length-le text {i = length text} (omega arith)) refl
+letters_end text i h = rw (drop_of_length-le text h) refl
+
+-- a part and what is behind it
+letters_append : (xs ys : List ℕ) → letters_in (xs ++ ys) ≡ letters_in xs + letters_in ys
+unfolding letters_in
+letters_append [] ys = omega arith
+letters_append (x ∷ xs) ys = omega (arith, letters_append xs ys)
+
+-- ---- counting from part to part
+
+-- `rest` is the end of the text, some whole parts are in front of it, and what was found stands there
+pub record Parted (text rest : List ℕ) (found : ℕ) : Type 0 where
+  pub short : length rest ≤ length text
+  pub whole : length rest % 224 ≡ length text % 224
+  pub left : drop (length text - length rest) text ≡ rest
+  pub all : found + letters_in rest ≡ letters_in text
+
+module _ {text rest : List ℕ} {found : ℕ} (p : Parted text rest found) where
+  pub parted_most : found ≤ length text
+  parted_most = omega (arith, p.all, letters_few text)
+
+  pub parted_more : (part behind : List ℕ) → rest ≡ part ++ behind → length part ≡ 224 → Parted text behind (found + letters_in part)
+  parted_more part behind e l =
+      let n : length rest ≡ 224 + length behind = omega (arith, ap length e, length-append part behind) in
+      let d : length text - length rest + 224 ≡ length text - length behind = omega (arith, p.short) in
+      record {
+        short = omega (arith, p.short);
+        whole = omega (arith, p.whole);
+        left = ap (λ k. drop k text) (sym d) ∙ sym (drop-drop 224 (length text - length rest) text) ∙ ap (drop 224) (p.left ∙ e) ∙ drop_at part behind 224 l;
+        all = omega (arith, p.all, ap letters_in e, letters_append part behind);
+      }
 
 -- ---- every letter of a plan or a payoff is one of the capitals
 

@@ -10,7 +10,7 @@ use native.Mathlib.Omega.{arith}
 use Rattle.fields.specs.Fields.{classes_of_three}
 use Rattle.language.proofs.Truth.{and_e}
 use Rattle.language.specs.Text.Letters.{Class, Form, Kind, Letter, amount, kind_of, letter_among, payoff_form, plan_form, root, roots_then, row_of, test}
-use Rattle.text.specs.Letters.{BareIs, ShapeFor, ShapeIs, Shaped, bare_shape, form_of, kind_number, kinds}
+use Rattle.text.specs.Letters.{BareIs, ShapeFor, ShapeIs, bare_shape, form_of, kind_number, kinds}
 use Rattle.text.specs.declared.letters.Shape.{Shape}
 use Rattle.text.specs.declared.letters.TextForm.{TextForm}
 use Rattle.text.specs.declared.letters.TextForm.TheVariants.{Payoff, Plan}
@@ -29,9 +29,6 @@ module _ {P : Type 0} (form : Form P) (b : ℕ) (s t : Shape) where
   unknown f g h = rw (f, g) h
 
 -- ---- letters without fields
-
-pub bare_none : (letter : ℕ) → BareIs letter 0
-bare_none letter = record { is = λ n. absurd (n refl); other = λ n. absurd (n refl) }
 
 -- whether a letter has the row that p stands for: a test that computes
 abbrev no_classes : List Class → Bool

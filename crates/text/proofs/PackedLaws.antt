@@ -10,24 +10,24 @@ use Rattle.text.specs.declared.Refusal.{Refusal}
 use Rattle.text.specs.declared.Refusal.TheVariants.{Caller, Length, Magnitude, NoRoom, NotInTime, NotOfForm, OutOfRange, Reads, Settings, Table, TooDeep, TooLong, TooManyNodes, WrongKind}
 use Rattle.text.specs.declared.letters.TextForm.{TextForm}
 use Rattle.text.specs.declared.letters.TextForm.TheVariants.{Payoff, Plan}
-use Rattle.text.specs.declared.whole.Row.TheVariants.{Open, Shut}
+use Rattle.std.specs.Prelude.{Err, Ok}
 
-pub open_of : (r : ℕ) → 64 ≤ r → row_of r ≡ Open (r / 64 - 1) (r % 64)
+pub open_of : (r : ℕ) → 64 ≤ r → row_of r ≡ Ok (record { next = r / 64 - 1; kids = r % 64 })
 unfolding row_of
 open_of r h = rw (le-leb 64 r h) refl
 
-pub shut_of : (r : ℕ) → r < 64 → row_of r ≡ Shut (refusal_for r)
+pub shut_of : (r : ℕ) → r < 64 → row_of r ≡ Err (refusal_for r)
 unfolding row_of
 shut_of r h = rw (lt-leb 64 r h) refl
 
-pub open_number : (next kids : ℕ) → kids < 64 → row_of ((next + 1) * 64 + kids) ≡ Open next kids
+pub open_number : (next kids : ℕ) → kids < 64 → row_of ((next + 1) * 64 + kids) ≡ Ok (record { next = next; kids = kids })
 unfolding row_of
 open_number next kids h =
     let m : ((next + 1) * 64 + kids) % 64 ≡ kids = omega arith in
     let d : ((next + 1) * 64 + kids) / 64 - 1 ≡ next = omega arith in
     rw (le-leb 64 ((next + 1) * 64 + kids) (omega arith), m, d) refl
 
-pub shut_number : (k : Refusal) → row_of (number_of k) ≡ Shut k
+pub shut_number : (k : Refusal) → row_of (number_of k) ≡ Err k
 unfolding row_of refusal_for
 shut_number TooLong = refl
 shut_number NotOfForm = refl

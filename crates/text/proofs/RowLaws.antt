@@ -12,7 +12,7 @@ use native.Mathlib.Omega.{arith}
 use Rattle.fields.specs.Fields.{slot_at}
 use Rattle.language.specs.Text.Classes.{Field}
 use Rattle.language.specs.Text.Letters.{Letter}
-use Rattle.language.specs.Text.Reader.{Trees, end, node}
+use Rattle.language.specs.Text.Reader.{end, node}
 use Rattle.nodes.specs.Rows.{behind_first, last_slots, link_to, row_for, slots_of}
 use Rattle.text.specs.Rows.{open_row, row_with}
 use Rattle.text.specs.declared.trees.Head.{Head}
@@ -57,13 +57,7 @@ row_put mid new i letter a b c d a' b' c' d' e p q r s =
     e ∙ ap (λ (z : ℤ). sets mid (5 * i) (pos letter ∷ z ∷ b' ∷ c' ∷ d' ∷ [])) p ∙ ap (λ (z : ℤ). sets mid (5 * i) (pos letter ∷ a ∷ z ∷ c' ∷ d' ∷ [])) q
     ∙ ap (λ (z : ℤ). sets mid (5 * i) (pos letter ∷ a ∷ b ∷ z ∷ d' ∷ [])) r ∙ ap (λ (z : ℤ). sets mid (5 * i) (pos letter ∷ a ∷ b ∷ c ∷ z ∷ [])) s
 
--- without children, with some, and where both are 0
-pub with_none : (letter : ℕ) (a b c d : ℤ) (kids : ℕ) → kids ≡ 0 → pos letter ∷ a ∷ b ∷ c ∷ d ∷ [] ≡ row_with letter a b c d kids
-with_none letter a b c d kids z = rw (eq-eqb kids 0 z) refl
-
-pub with_some : (letter : ℕ) (a b c d : ℤ) (kids : ℕ) → (kids ≡ 0 → ⊥) → pos letter ∷ a ∷ b ∷ pos 0 ∷ pos 0 ∷ [] ≡ row_with letter a b c d kids
-with_some letter a b c d kids n = rw (ne_eqb kids 0 n) refl
-
+-- without fields, whatever the children
 pub with_zeros : (letter kids : ℕ) → pos letter ∷ pos 0 ∷ pos 0 ∷ pos 0 ∷ pos 0 ∷ [] ≡ row_with letter (pos 0) (pos 0) (pos 0) (pos 0) kids
 with_zeros letter kids = go (eqb kids 0)
   where

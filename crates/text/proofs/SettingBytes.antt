@@ -1,12 +1,9 @@
 -- A text without a `P` has no field with one, and no open setting.
-use Prim.Native.Nat.{◌+◌, ◌<◌, ◌≤◌, ℕ}
+use Prim.Native.Nat.{ℕ}
 use lib.Dec.{eqb}
-use lib.ListN.{drop, drop_of_length-le, get_or, length}
-use lib.Seq.{drop-cons}
 use mathlib.Core.Bool.{Bool, ◌||◌, false, true, true≢false}
 use mathlib.Core.List.{List, [], ◌++◌, ◌∷◌}
 use mathlib.Core.Path.{◌∙◌, ◌≡◌, ap, refl, sym}
-use native.Mathlib.Numerals.{add-one}
 use Rattle.language.specs.Rules.Settings.{closed, delay_of, fill, map_plan}
 use Rattle.language.specs.Text.Classes.{Field, a_number, print_delay, print_field, print_setting}
 use Rattle.language.specs.Text.Fields.{behind, join_with}
@@ -123,27 +120,3 @@ module _ (σ : ℕ → ℕ) where
   pub none_open : (x : Plan Delay) → opens (print_plan x) ≡ false → closed (fill σ x) ≡ x
   unfolding print_plan print_text
   none_open x e = same_plan x end [] (join_none 44 (print_trees plan_form (plan_trees x end) []) e)
-
--- ---- as the code looks for it
-
-or_assoc : (a b c : Bool) → a || (b || c) ≡ (a || b) || c
-or_assoc true b c = refl
-or_assoc false b c = refl
-
-or_none : (a : Bool) → a || false ≡ a
-or_none true = refl
-or_none false = refl
-
-module _ (text : List ℕ) where
-  -- found so far, and the byte at i
-  pub opens_next : (from i : ℕ) (found : Bool) → i < length text → opens (drop from text) ≡ found || opens (drop i text)
-      → opens (drop from text) ≡ (found || eqb (get_or text i 0) 80) || opens (drop (i + 1) text)
-  unfolding opens
-  opens_next from i found h e =
-      let one : opens (drop i text) ≡ eqb (get_or text i 0) 80 || opens (drop (i + 1) text) = ap opens (drop-cons text i 0 h) ∙ rw (add-one i) refl in
-      e ∙ ap (λ r. found || r) one ∙ or_assoc found (eqb (get_or text i 0) 80) (opens (drop (i + 1) text))
-
-  -- the last part
-  pub opens_rest : (at n : ℕ) (r : Bool) → length text ≤ n → opens (drop at text) ≡ r || opens (drop n text) → opens (drop at text) ≡ r
-  unfolding opens
-  opens_rest at n r h e = e ∙ ap (λ t. r || opens t) (drop_of_length-le text h) ∙ or_none r

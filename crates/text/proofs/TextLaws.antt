@@ -12,8 +12,8 @@ use Rattle.language.specs.Text.Letters.{Form}
 use Rattle.language.specs.Text.Reader.{Trees, at_end, text_as_read, to_the_end}
 use Rattle.text.specs.ReadInto.{CountIs, ReadInto, Stands}
 use Rattle.text.specs.Whole.{Grown, whole_text}
-use Rattle.text.specs.declared.Reading.{Reading}
-use Rattle.text.specs.declared.Reading.TheVariants.{Nodes, Refused}
+use Rattle.std.specs.Prelude.{Err, Ok, Result}
+use Rattle.text.specs.declared.Refusal.{Refusal}
 
 module _ {P : Type 0} (form : Form P) (text : List ℕ) where
   pub text_long : form.bytes < length text → text_as_read form text ≡ refused 1
@@ -38,6 +38,6 @@ module _ {P : Type 0} (form : Form P) (text : List ℕ) where
       pub text_read : length text < next → Stands form (text_as_read form text) nodes m
       text_read k = record { tree = g.tree; is = read_all ∙ ap (at_end form g.tree) (from_behind text next k); count = g.counted; rows = g.holds }
 
-  pub count_is : (answer : Answer (Trees P)) (nodes : List ℤ) (r : Reading) → ReadInto form answer nodes r → CountIs answer r
-  count_is answer nodes (Nodes n) s = record { tree = s.tree; is = s.is; count = s.count }
-  count_is answer nodes (Refused k) e = e
+  pub count_is : (answer : Answer (Trees P)) (nodes : List ℤ) (r : Result ℕ Refusal) → ReadInto form answer nodes r → CountIs answer r
+  count_is answer nodes (Ok n) s = record { tree = s.tree; is = s.is; count = s.count }
+  count_is answer nodes (Err k) e = e

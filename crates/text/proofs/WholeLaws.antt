@@ -15,11 +15,11 @@ use Rattle.text.specs.Room.{Roomy, letters_in}
 use Rattle.text.specs.Rows.{RowBegun, RowIs, open_row}
 use Rattle.text.specs.Whole.{Grown, whole_text}
 use Rattle.text.specs.declared.Refusal.{Refusal}
-use Rattle.text.specs.declared.whole.Row.{Row}
-use Rattle.text.specs.declared.whole.Row.TheVariants.{Open, Shut}
 use Rattle.text.proofs.Nesting.{AllSized, Going, Kept, closed, held, held_count, to_come, waits}
 use Rattle.text.proofs.LetterCounts.{letter_more, letters_all}
 use Rattle.text.proofs.NestingLaws.{Waiter, closed_refused, few_waiting, finished, follows_last, follows_waits, inside_last, inside_waits, kind_some, leaf_done, own_before, waiter, waits_few}
+use Rattle.std.specs.Prelude.{Err, Ok, Result}
+use Rattle.text.specs.declared.quick.Opened.{Opened}
 
 -- a table as long as one with room
 as_roomy : (text : List ℕ) (nodes n : List ℤ) → length n ≡ length nodes → Roomy text nodes → Roomy text n
@@ -27,7 +27,7 @@ as_roomy text nodes n e r i h k = omega (arith, e, r i h k)
 
 module _ {P : Type 0} (form : Form P) (text : List ℕ) where
   -- a row was opened, or is refused
-  pub record Opening (nodes : List ℤ) (stack : List ℕ) (waiting count left : ℕ) (row : Row) : Type 0 where
+  pub record Opening (nodes : List ℤ) (stack : List ℕ) (waiting count left : ℕ) (row : Result Opened Refusal) : Type 0 where
     pub at : ℕ
     pub kind : ℕ
     pub old : List ℤ
@@ -54,12 +54,22 @@ module _ {P : Type 0} (form : Form P) (text : List ℕ) where
   unfolding waits Kept AllSized held_count held closed kind_at
   start nodes stack = record { frames = []; deep = omega arith; level = refl; wait = refl; kept = tt; sized = tt; counted = refl; holds = refl; is = refl }
 
-  pub shut : (nodes : List ℤ) (stack : List ℕ) (waiting count left : ℕ) (k : Refusal) → Opening nodes stack waiting count left (Shut k) → whole_text form text ≡ refused (number_of k)
+  -- the first row, and the one behind those that stand in the table
+  pub opening_first : (old nodes : List ℤ) (stack : List ℕ) (row : Result Opened Refusal) → Roomy text old → ((l : Letter P) → byte "A" ≤ (row_of form l).letter)
+      → RowIs form 32 (kind_at 1) text 0 old nodes 0 row → Opening nodes stack 0 0 32 row
+  opening_first old nodes stack row size capital r = record { at = 0; kind = 1; old = old; size = size; paced = omega arith; capital = capital; going = start old stack; row_is = r }
+
+  pub opening_next : (nodes new : List ℤ) (stack : List ℕ) (at kind count left waiting : ℕ) (row : Result Opened Refusal) → Ready nodes stack at kind count left waiting
+      → RowIs form left (kind_at kind) text at nodes new count row → Opening new stack waiting count left row
+  opening_next nodes new stack at kind count left waiting row y r =
+      record { at = at; kind = kind; old = nodes; size = y.size; paced = y.paced; capital = y.capital; going = y.going; row_is = r }
+
+  pub shut : (nodes : List ℤ) (stack : List ℕ) (waiting count left : ℕ) (k : Refusal) → Opening nodes stack waiting count left (Err k) → whole_text form text ≡ refused (number_of k)
   shut nodes stack waiting count left k o =
       let g = o.going in
       g.is ∙ ap (closed form g.frames) (o.row_is.is (to_come g.frames)) ∙ closed_refused form g.frames (number_of k)
 
-  module _ (nodes : List ℤ) (stack : List ℕ) (waiting count left next kids : ℕ) (o : Opening nodes stack waiting count left (Open next kids)) where
+  module _ (nodes : List ℤ) (stack : List ℕ) (waiting count left next kids : ℕ) (o : Opening nodes stack waiting count left (Ok (record { next = next; kids = kids }))) where
     abbrev r : RowBegun form left (kind_at o.kind) text o.at o.old nodes count next kids
     r = o.row_is
 
@@ -88,9 +98,6 @@ module _ {P : Type 0} (form : Form P) (text : List ℕ) where
 
     row_size : Roomy text nodes
     row_size = as_roomy text o.old nodes row_length o.size
-
-    pub few_left : left ≤ 32
-    few_left = omega (arith, o.going.level)
 
     pub places_left : waiting < 32
     places_left = omega (arith, o.going.wait, waits_few o.going.frames, o.going.level, row_level)

@@ -1,5 +1,5 @@
--- The letter table as the code has it: kinds and classes by number.
-use Rattle.std.specs.Prelude.{◌%◌, ◌/◌, ◌≤◌, ℕ, eqb, cond, List, [], ◌∷◌, ◌≡◌}
+-- The letter table as the code has it: kinds by number.
+use Rattle.std.specs.Prelude.{◌%◌, ◌/◌, ◌≤◌, ℕ, eqb, cond, List, [], ◌∷◌, ◌≡◌, None}
 use Rattle.std.proofs.Math.Option.{Option, none, some}
 use Rattle.fields.specs.Fields.{classes_of_three}
 use Rattle.language.specs.Text.Letters.{Form, Kind, Letter, PayoffLetter, PlanLetter, amount, kind_of, letter_among, payoff_form, plan_form, root, roots_then, row_of, test}
@@ -52,7 +52,7 @@ module _ {P : Type 0} (form : Form P) (letter : ℕ) where
 -- ---- a letter without fields, in one number: its kind and the kinds of its children, from the lowest digit in base 4
 
 abbrev pub bare_shape : ℕ → Shape
-bare_shape p = record { kind = p % 4; first = 0; second = 0; third = 0; kid1 = p / 4 % 4; kid2 = p / 16 % 4; kid3 = p / 64 }
+bare_shape p = record { kind = p % 4; first = None; second = None; third = None; kid1 = p / 4 % 4; kid2 = p / 16 % 4; kid3 = p / 64 }
 
 -- in both texts the letter has this row, unless p is 0
 pub record BareIs (letter p : ℕ) : Type 0 where

@@ -1,13 +1,12 @@
 -- What reading a text into the node table answers, where `answer` is the definition's result.
-use Rattle.std.specs.Prelude.{◌*◌, ℕ, ℤ, take, List, ◌≡◌}
+use Rattle.std.specs.Prelude.{◌*◌, ℕ, ℤ, take, List, ◌≡◌, Err, Ok, Result}
 use Rattle.language.specs.Answer.{Answer, got, refused}
 use Rattle.language.specs.Text.Letters.{Form}
 use Rattle.language.specs.Text.Reader.{Trees}
 use Rattle.nodes.specs.Rows as rows
 use Rattle.nodes.specs.Rows.{count_of}
 use Rattle.text.specs.Refusals.{number_of}
-use Rattle.text.specs.declared.Reading.{Reading}
-use Rattle.text.specs.declared.Reading.TheVariants.{Nodes, Refused}
+use Rattle.text.specs.declared.Refusal.{Refusal}
 
 module _ {P : Type 0} (form : Form P) where
   -- a text that is read: its n nodes stand in the table, row by row
@@ -17,9 +16,9 @@ module _ {P : Type 0} (form : Form P) where
     pub count : n ≡ count_of tree
     pub rows : take (5 * n) nodes ≡ rows.rows form tree
 
-  abbrev pub ReadInto : Answer (Trees P) → List ℤ → Reading → Type 0
-  ReadInto answer nodes (Nodes n) = Stands answer nodes n
-  ReadInto answer nodes (Refused k) = answer ≡ refused (number_of k)
+  abbrev pub ReadInto : Answer (Trees P) → List ℤ → Result ℕ Refusal → Type 0
+  ReadInto answer nodes (Ok n) = Stands answer nodes n
+  ReadInto answer nodes (Err k) = answer ≡ refused (number_of k)
 
 -- how many nodes a text has, or its refusal
 module _ {P : Type 0} where
@@ -28,6 +27,6 @@ module _ {P : Type 0} where
     pub is : answer ≡ got tree
     pub count : n ≡ count_of tree
 
-  abbrev pub CountIs : Answer (Trees P) → Reading → Type 0
-  CountIs answer (Nodes n) = Counted answer n
-  CountIs answer (Refused k) = answer ≡ refused (number_of k)
+  abbrev pub CountIs : Answer (Trees P) → Result ℕ Refusal → Type 0
+  CountIs answer (Ok n) = Counted answer n
+  CountIs answer (Err k) = answer ≡ refused (number_of k)

@@ -1,16 +1,13 @@
 -- What an answer of the code about a node's row means: a node was opened, and its row stands in the table.
-use Rattle.std.specs.Prelude.{◌*◌, ◌+◌, ℕ, eqb, pos, ℤ, cond, List, [], ◌∷◌, ◌≡◌}
+use Rattle.std.specs.Prelude.{◌*◌, ◌+◌, ℕ, eqb, pos, ℤ, cond, List, [], ◌∷◌, ◌≡◌, Err, None, Ok, Option, Result, Some}
 use Rattle.std.proofs.lemmas.List.Edits.{sets}
-use Rattle.fields.specs.declared.slots.Slots.TheVariants.{Filled, Unfilled}
-use Rattle.fields.specs.declared.slots.Slots.{Slots}
 use Rattle.language.specs.Text.Letters.{Form, Kind}
 use Rattle.text.specs.Refusals.{number_of}
 use Rattle.text.specs.Trees.{Begun, Opens, Refuses}
-use Rattle.text.specs.declared.quick.Quick.{Quick}
-use Rattle.text.specs.declared.quick.Quick.TheVariants.{Opened, Other}
 use Rattle.text.specs.declared.trees.Head.{Head}
-use Rattle.text.specs.declared.whole.Row.{Row}
-use Rattle.text.specs.declared.whole.Row.TheVariants.{Open, Shut}
+use Rattle.fields.specs.declared.slots.Slots.{Slots}
+use Rattle.text.specs.declared.Refusal.{Refusal}
+use Rattle.text.specs.declared.quick.Opened.{Opened}
 
 -- the row of a node that was opened; one with children has no links yet
 abbrev pub row_with : ℕ → ℤ → ℤ → ℤ → ℤ → ℕ → List ℤ
@@ -33,9 +30,9 @@ module _ {P : Type 0} (form : Form P) where
       pub children : kids_of head ≡ kids
       pub row : new ≡ sets old (5 * count) (open_row head)
 
-    abbrev pub RowIs : Kind → List ℕ → ℕ → List ℤ → List ℤ → ℕ → Row → Type 0
-    RowIs kind text at old new count (Open next kids) = RowBegun kind text at old new count next kids
-    RowIs kind text at old new count (Shut k) = Refuses form left kind text at count (number_of k)
+    abbrev pub RowIs : Kind → List ℕ → ℕ → List ℤ → List ℤ → ℕ → Result Opened Refusal → Type 0
+    RowIs kind text at old new count (Ok it) = RowBegun kind text at old new count it.next it.kids
+    RowIs kind text at old new count (Err k) = Refuses form left kind text at count (number_of k)
 
   -- a node that is opened wherever there is room for it, or another and nothing was written
   pub record RowOpens (kind : Kind) (text : List ℕ) (at : ℕ) (old new : List ℤ) (count next kids : ℕ) : Type 0 where
@@ -45,11 +42,11 @@ module _ {P : Type 0} (form : Form P) where
     pub children : kids_of head ≡ kids
     pub row : new ≡ sets old (5 * count) (open_row head)
 
-  abbrev pub QuickIs : Kind → List ℕ → ℕ → List ℤ → List ℤ → ℕ → Quick → Type 0
-  QuickIs kind text at old new count (Opened next kids) = RowOpens kind text at old new count next kids
-  QuickIs kind text at old new count Other = new ≡ old
+  abbrev pub QuickIs : Kind → List ℕ → ℕ → List ℤ → List ℤ → ℕ → Option Opened → Type 0
+  QuickIs kind text at old new count (Some it) = RowOpens kind text at old new count it.next it.kids
+  QuickIs kind text at old new count None = new ≡ old
 
 -- the fields of a node as its row, where they are known
-abbrev pub FillIs : Slots → ℕ → List ℤ → List ℤ → ℕ → ℕ → Quick → Type 0
-FillIs (Filled a b c d next) letter old new count kids r = (r ≡ Opened next kids) × (new ≡ sets old (5 * count) (row_with letter a b c d kids))
-FillIs Unfilled letter old new count kids r = (r ≡ Other) × (new ≡ old)
+abbrev pub FillIs : Option Slots → ℕ → List ℤ → List ℤ → ℕ → ℕ → Option Opened → Type 0
+FillIs (Some it) letter old new count kids r = (r ≡ Some (record { next = it.next; kids = kids })) × (new ≡ sets old (5 * count) (row_with letter it.a it.b it.c it.d kids))
+FillIs None letter old new count kids r = (r ≡ None) × (new ≡ old)

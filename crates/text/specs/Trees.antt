@@ -1,5 +1,5 @@
 -- What an answer of the code about a node means: a definition's result.
-use Rattle.std.specs.Prelude.{◌+◌, ◌-◌, ◌<◌, ◌≤◌, ℕ, drop, length, List, [], ◌∷◌, ◌≡◌}
+use Rattle.std.specs.Prelude.{◌+◌, ◌-◌, ◌<◌, ◌≤◌, ℕ, drop, length, List, [], ◌∷◌, ◌≡◌, Err, None, Ok, Option, Result, Some}
 use Rattle.fields.specs.Fields.{slot_at}
 use Rattle.fields.specs.Positions.{rest_at, up_to}
 use Rattle.language.specs.Answer.{refused}
@@ -10,15 +10,12 @@ use Rattle.language.specs.Text.Reader.{give, node, read_trees, then_read}
 use Rattle.text.specs.Letters.{kinds}
 use Rattle.text.specs.Refusals.{number_of}
 use Rattle.text.specs.declared.trees.Head.{Head}
-use Rattle.text.specs.declared.trees.Opened.{Opened}
-use Rattle.text.specs.declared.trees.Opened.TheVariants.{Closed, Node}
-use Rattle.text.specs.declared.trees.Sole.{Sole}
-use Rattle.text.specs.declared.trees.Sole.TheVariants.{Byte, Other}
+use Rattle.text.specs.declared.Refusal.{Refusal}
 
 -- a field of a single byte
-abbrev pub SoleIs : List ℕ → Sole → Type 0
-SoleIs f (Byte b) = f ≡ b ∷ []
-SoleIs f Other = length f ≡ 1 → ⊥
+abbrev pub SoleIs : List ℕ → Option ℕ → Type 0
+SoleIs f (Some b) = f ≡ b ∷ []
+SoleIs f None = length f ≡ 1 → ⊥
 
 module _ {P : Type 0} (form : Form P) (left : ℕ) where
   -- a node was opened: what reading it and others of the kinds ks then comes to, once its children are read
@@ -44,9 +41,9 @@ module _ {P : Type 0} (form : Form P) (left : ℕ) where
   pub record Refuses (kind : Kind) (text : List ℕ) (at count n : ℕ) : Type 0 where
     pub is : (ks : List Kind) → read_trees form left (kind ∷ ks) (rest_at text at count) ≡ refused n
 
-  abbrev pub OpenedIs : Kind → List ℕ → ℕ → ℕ → Opened → Type 0
-  OpenedIs kind text at count (Node h) = Begun kind text at count h
-  OpenedIs kind text at count (Closed k) = Refuses kind text at count (number_of k)
+  abbrev pub OpenedIs : Kind → List ℕ → ℕ → ℕ → Result Head Refusal → Type 0
+  OpenedIs kind text at count (Ok h) = Begun kind text at count h
+  OpenedIs kind text at count (Err k) = Refuses kind text at count (number_of k)
 
 module _ {P : Type 0} (form : Form P) where
   -- a node of the kind stands at byte `at`: it is opened wherever there is room for it

@@ -1,5 +1,5 @@
 -- What reading all nodes of a text answers.
-use Rattle.std.specs.Prelude.{◌*◌, ℕ, ℤ, take, List, [], ◌∷◌, ◌≡◌}
+use Rattle.std.specs.Prelude.{◌*◌, ℕ, ℤ, take, List, [], ◌∷◌, ◌≡◌, Err, Ok, Result}
 use Rattle.fields.specs.Positions.{rest_at}
 use Rattle.language.specs.Answer.{Answer, got, refused}
 use Rattle.language.specs.Limits.{max_depth}
@@ -8,8 +8,8 @@ use Rattle.language.specs.Text.Reader.{Read, Trees, read_trees}
 use Rattle.nodes.specs.Rows as rows
 use Rattle.nodes.specs.Rows.{count_of}
 use Rattle.text.specs.Refusals.{number_of}
+use Rattle.text.specs.declared.Refusal.{Refusal}
 use Rattle.text.specs.declared.whole.Read as whole
-use Rattle.text.specs.declared.whole.Read.TheVariants.{Done, Stopped}
 
 module _ {P : Type 0} (form : Form P) where
   -- the definition's answer from the first byte on
@@ -23,6 +23,6 @@ module _ {P : Type 0} (form : Form P) where
     pub counted : m ≡ count_of tree
     pub holds : take (5 * m) nodes ≡ rows.rows form tree
 
-  abbrev pub ReadIs : List ℕ → List ℤ → whole.Read → Type 0
-  ReadIs text nodes (Done next m) = Grown text nodes next m
-  ReadIs text nodes (Stopped k) = whole_text text ≡ refused (number_of k)
+  abbrev pub ReadIs : List ℕ → List ℤ → Result whole.Read Refusal → Type 0
+  ReadIs text nodes (Ok it) = Grown text nodes it.next it.count
+  ReadIs text nodes (Err k) = whole_text text ≡ refused (number_of k)

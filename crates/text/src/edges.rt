@@ -8,25 +8,25 @@ ghost use Rattle.text.specs.Room.{Roomy, letters_in};
 ghost use Rattle.text.specs.Rows.{QuickIs, RowIs};
 
 use crate::letters::{ROOT, TextForm, bare_letter};
-use crate::quick::{Quick, fill_row};
-use crate::trees::{MAX_NODES, Sole, letter_at, open_by_table, put_row};
+use crate::quick::{Opened, fill_row};
+use crate::trees::{MAX_NODES, letter_at, open_by_table, put_row};
 use fields::slots::last_digits;
 
 // A transfer that ends a plan's text.
-fn last_transfer(text: &[u8], at: usize, kind: u8, nodes: &mut [i64], count: usize) -> Quick
+fn last_transfer(
+    text: &[u8],
+    at: usize,
+    kind: u8,
+    nodes: &mut [i64],
+    count: usize,
+) -> Option<Opened>
     requires { (length text.now ≤ 53760) × (at < length text.now) × (5 * count + 5 ≤ length nodes.old) }
     ensures { QuickIs plan_form (kind_at kind) text.now at nodes.old nodes.new count result }
 {
-    if text.len() - at == 5 {
-        if kind == ROOT {
-            if text[at] == b'T' {
-                if text[at + 1] == b',' {
-                    return fill_row(last_digits(text, at + 2), text, at, nodes, count, 0);
-                }
-            }
-        }
+    if text.len() - at == 5 && kind == ROOT && text[at] == b'T' && text[at + 1] == b',' {
+        return fill_row(last_digits(text, at + 2), text, at, nodes, count, 0);
     }
-    Quick::Other
+    None
 }
 
 // A node of the kind that is asked for, as row `count`.
@@ -37,26 +37,22 @@ fn edge_row(
     kind: u8,
     nodes: &mut [i64],
     count: usize,
-) -> Quick
+) -> Option<Opened>
     requires { (length text.now ≤ 53760) × (at < length text.now) × (5 * count + 5 ≤ length nodes.old) × (0 < kind) }
     ensures { QuickIs (form_of form) (kind_at kind) text.now at nodes.old nodes.new count result }
 {
-    match letter_at(text, at) {
-        Sole::Byte(letter) => {
-            let bare = bare_letter(letter);
-            if bare % 4 == kind {
-                put_row(nodes, count, letter, 0, 0, 0, 0);
-                return Quick::Opened {
-                    next: at + 2,
-                    kids: bare / 4,
-                };
-            }
-            match form {
-                TextForm::Plan => last_transfer(text, at, kind, nodes, count),
-                TextForm::Payoff => Quick::Other,
-            }
-        }
-        Sole::Other => Quick::Other,
+    let letter = letter_at(text, at)?;
+    let bare = bare_letter(letter);
+    if bare % 4 == kind {
+        put_row(nodes, count, letter, 0, 0, 0, 0);
+        return Some(Opened {
+            next: at + 2,
+            kids: bare / 4,
+        });
+    }
+    match form {
+        TextForm::Plan => last_transfer(text, at, kind, nodes, count),
+        TextForm::Payoff => None,
     }
 }
 
@@ -73,16 +69,9 @@ pub fn open_general(
     requires { (at ≤ length text.now + 1) × (length text.now ≤ 53760) × Roomy text.now nodes.old × (count ≤ letters_in (take at text.now)) × (0 < kind) × (kind ≤ 3) }
     ensures { RowIs (form_of form) left (kind_at kind) text.now at nodes.old nodes.new count (row_of result) }
 {
-    if at < text.len() {
-        if count < MAX_NODES {
-            if 0 < left {
-                match edge_row(form, text, at, kind, nodes, count) {
-                    Quick::Opened { next, kids } => {
-                        return (next + 1) * 64 + kids as usize;
-                    }
-                    Quick::Other => {}
-                }
-            }
+    if at < text.len() && count < MAX_NODES && 0 < left {
+        if let Some(row) = edge_row(form, text, at, kind, nodes, count) {
+            return (row.next + 1) * 64 + usize::from(row.kids);
         }
     }
     open_by_table(form, text, at, kind, nodes, count, left)

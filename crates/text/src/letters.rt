@@ -1,9 +1,9 @@
 // The letter table: which letters a text has, and what stands behind each.
-ghost use Rattle.std.specs.Prelude.{◌≡◌};
+ghost use Rattle.std.specs.Prelude.{◌≡◌, None};
 ghost use Rattle.language.specs.Text.Letters.{plan_form, payoff_form};
 ghost use Rattle.text.specs.Letters.{BareIs, form_of, ShapeIs};
 
-use fields::field::{DELAY, DIVISOR, FIGURE, FROM_NODE, LABEL, MONTH, NONE, PARTY};
+use fields::field::Class;
 
 #[derive(Clone, Copy)]
 pub enum TextForm {
@@ -11,7 +11,10 @@ pub enum TextForm {
     Payoff,
 }
 
-// The kinds of places. A letter with fewer than three children has NONE for the others.
+// The kinds of places. A letter with fewer than three children has NONE for the others. Numbers, not an enum: the kinds of a node's children
+// are the digits in base 4 of one number, which is handed back in a register.
+pub const NONE: u8 = 0;
+
 pub const ROOT: u8 = 1;
 
 pub const AMOUNT: u8 = 2;
@@ -22,15 +25,15 @@ pub const TEST: u8 = 3;
 #[derive(Clone, Copy)]
 pub struct Shape {
     pub kind: u8,
-    pub first: u8,
-    pub second: u8,
-    pub third: u8,
+    pub first: Option<Class>,
+    pub second: Option<Class>,
+    pub third: Option<Class>,
     pub kid1: u8,
     pub kid2: u8,
     pub kid3: u8,
 }
 
-fn leaf(kind: u8, first: u8, second: u8, third: u8) -> Shape
+fn leaf(kind: u8, first: Option<Class>, second: Option<Class>, third: Option<Class>) -> Shape
     ensures { result ≡ record { kind = kind; first = first; second = second; third = third; kid1 = 0; kid2 = 0; kid3 = 0 } }
 {
     Shape {
@@ -44,14 +47,14 @@ fn leaf(kind: u8, first: u8, second: u8, third: u8) -> Shape
     }
 }
 
-fn over(kind: u8, first: u8, kid1: u8, kid2: u8, kid3: u8) -> Shape
-    ensures { result ≡ record { kind = kind; first = first; second = 0; third = 0; kid1 = kid1; kid2 = kid2; kid3 = kid3 } }
+fn over(kind: u8, first: Option<Class>, kid1: u8, kid2: u8, kid3: u8) -> Shape
+    ensures { result ≡ record { kind = kind; first = first; second = None; third = None; kid1 = kid1; kid2 = kid2; kid3 = kid3 } }
 {
     Shape {
         kind,
         first,
-        second: NONE,
-        third: NONE,
+        second: None,
+        third: None,
         kid1,
         kid2,
         kid3,
@@ -62,25 +65,25 @@ fn plan_shape(letter: u8) -> Shape
     ensures { ShapeIs plan_form letter result }
 {
     match letter {
-        b'Z' => leaf(ROOT, NONE, NONE, NONE),
-        b'T' => leaf(ROOT, PARTY, PARTY, NONE),
-        b'S' => over(ROOT, NONE, AMOUNT, ROOT, NONE),
-        b'L' => over(ROOT, DELAY, ROOT, NONE, NONE),
-        b'B' => over(ROOT, NONE, ROOT, ROOT, NONE),
-        b'W' => over(ROOT, DELAY, TEST, ROOT, ROOT),
-        b'N' => leaf(AMOUNT, FIGURE, NONE, NONE),
-        b'O' => leaf(AMOUNT, LABEL, FROM_NODE, NONE),
-        b'A' => over(AMOUNT, NONE, AMOUNT, AMOUNT, NONE),
-        b'U' => over(AMOUNT, NONE, AMOUNT, AMOUNT, NONE),
-        b'K' => over(AMOUNT, NONE, AMOUNT, AMOUNT, NONE),
-        b'Q' => over(AMOUNT, DIVISOR, AMOUNT, NONE, NONE),
-        b'I' => over(AMOUNT, NONE, TEST, AMOUNT, AMOUNT),
-        b'G' => over(TEST, NONE, AMOUNT, AMOUNT, NONE),
-        b'E' => over(TEST, NONE, AMOUNT, AMOUNT, NONE),
-        b'Y' => over(TEST, NONE, TEST, TEST, NONE),
-        b'V' => over(TEST, NONE, TEST, TEST, NONE),
-        b'R' => over(TEST, NONE, TEST, NONE, NONE),
-        _ => leaf(NONE, NONE, NONE, NONE),
+        b'Z' => leaf(ROOT, None, None, None),
+        b'T' => leaf(ROOT, Some(Class::Party), Some(Class::Party), None),
+        b'S' => over(ROOT, None, AMOUNT, ROOT, NONE),
+        b'L' => over(ROOT, Some(Class::Delay), ROOT, NONE, NONE),
+        b'B' => over(ROOT, None, ROOT, ROOT, NONE),
+        b'W' => over(ROOT, Some(Class::Delay), TEST, ROOT, ROOT),
+        b'N' => leaf(AMOUNT, Some(Class::Figure), None, None),
+        b'O' => leaf(AMOUNT, Some(Class::Label), Some(Class::FromNode), None),
+        b'A' => over(AMOUNT, None, AMOUNT, AMOUNT, NONE),
+        b'U' => over(AMOUNT, None, AMOUNT, AMOUNT, NONE),
+        b'K' => over(AMOUNT, None, AMOUNT, AMOUNT, NONE),
+        b'Q' => over(AMOUNT, Some(Class::Divisor), AMOUNT, NONE, NONE),
+        b'I' => over(AMOUNT, None, TEST, AMOUNT, AMOUNT),
+        b'G' => over(TEST, None, AMOUNT, AMOUNT, NONE),
+        b'E' => over(TEST, None, AMOUNT, AMOUNT, NONE),
+        b'Y' => over(TEST, None, TEST, TEST, NONE),
+        b'V' => over(TEST, None, TEST, TEST, NONE),
+        b'R' => over(TEST, None, TEST, NONE, NONE),
+        _ => leaf(NONE, None, None, None),
     }
 }
 
@@ -88,25 +91,35 @@ fn payoff_shape(letter: u8) -> Shape
     ensures { ShapeIs payoff_form letter result }
 {
     match letter {
-        b'Z' => leaf(ROOT, NONE, NONE, NONE),
-        b'F' => leaf(ROOT, MONTH, PARTY, PARTY),
-        b'H' => leaf(ROOT, MONTH, PARTY, PARTY),
-        b'S' => over(ROOT, NONE, AMOUNT, ROOT, NONE),
-        b'B' => over(ROOT, NONE, ROOT, ROOT, NONE),
-        b'W' => over(ROOT, DELAY, TEST, ROOT, ROOT),
-        b'N' => leaf(AMOUNT, FIGURE, NONE, NONE),
-        b'O' => leaf(AMOUNT, LABEL, MONTH, NONE),
-        b'A' => over(AMOUNT, NONE, AMOUNT, AMOUNT, NONE),
-        b'U' => over(AMOUNT, NONE, AMOUNT, AMOUNT, NONE),
-        b'K' => over(AMOUNT, NONE, AMOUNT, AMOUNT, NONE),
-        b'Q' => over(AMOUNT, DIVISOR, AMOUNT, NONE, NONE),
-        b'I' => over(AMOUNT, NONE, TEST, AMOUNT, AMOUNT),
-        b'G' => over(TEST, NONE, AMOUNT, AMOUNT, NONE),
-        b'E' => over(TEST, NONE, AMOUNT, AMOUNT, NONE),
-        b'Y' => over(TEST, NONE, TEST, TEST, NONE),
-        b'V' => over(TEST, NONE, TEST, TEST, NONE),
-        b'R' => over(TEST, NONE, TEST, NONE, NONE),
-        _ => leaf(NONE, NONE, NONE, NONE),
+        b'Z' => leaf(ROOT, None, None, None),
+        b'F' => leaf(
+            ROOT,
+            Some(Class::Month),
+            Some(Class::Party),
+            Some(Class::Party),
+        ),
+        b'H' => leaf(
+            ROOT,
+            Some(Class::Month),
+            Some(Class::Party),
+            Some(Class::Party),
+        ),
+        b'S' => over(ROOT, None, AMOUNT, ROOT, NONE),
+        b'B' => over(ROOT, None, ROOT, ROOT, NONE),
+        b'W' => over(ROOT, Some(Class::Delay), TEST, ROOT, ROOT),
+        b'N' => leaf(AMOUNT, Some(Class::Figure), None, None),
+        b'O' => leaf(AMOUNT, Some(Class::Label), Some(Class::Month), None),
+        b'A' => over(AMOUNT, None, AMOUNT, AMOUNT, NONE),
+        b'U' => over(AMOUNT, None, AMOUNT, AMOUNT, NONE),
+        b'K' => over(AMOUNT, None, AMOUNT, AMOUNT, NONE),
+        b'Q' => over(AMOUNT, Some(Class::Divisor), AMOUNT, NONE, NONE),
+        b'I' => over(AMOUNT, None, TEST, AMOUNT, AMOUNT),
+        b'G' => over(TEST, None, AMOUNT, AMOUNT, NONE),
+        b'E' => over(TEST, None, AMOUNT, AMOUNT, NONE),
+        b'Y' => over(TEST, None, TEST, TEST, NONE),
+        b'V' => over(TEST, None, TEST, TEST, NONE),
+        b'R' => over(TEST, None, TEST, NONE, NONE),
+        _ => leaf(NONE, None, None, None),
     }
 }
 

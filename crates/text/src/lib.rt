@@ -18,7 +18,7 @@ mod trees;
 mod whole;
 
 use letters::TextForm;
-use whole::{Read, read_rows};
+use whole::read_rows;
 
 #[derive(Clone, Copy)]
 pub enum Refusal {
@@ -39,32 +39,33 @@ pub enum Refusal {
 }
 
 // Document 01's number of a refusal.
-pub fn number_of(refusal: Refusal) -> u8
-    ensures { result ≡ number_of refusal }
-{
-    match refusal {
-        Refusal::TooLong => 1,
-        Refusal::NotOfForm => 2,
-        Refusal::TooManyNodes => 3,
-        Refusal::TooDeep => 4,
-        Refusal::WrongKind => 5,
-        Refusal::Magnitude => 6,
-        Refusal::NotInTime => 7,
-        Refusal::Settings => 8,
-        Refusal::Table => 9,
-        Refusal::Length => 10,
-        Refusal::Reads => 11,
-        Refusal::Caller => 12,
-        Refusal::NoRoom => 13,
-        Refusal::OutOfRange => 14,
+impl From<Refusal> for u8 {
+    ghost from_gives = { λ k n. n ≡ number_of k };
+
+    fn from(refusal: Refusal) -> u8 {
+        match refusal {
+            Refusal::TooLong => 1,
+            Refusal::NotOfForm => 2,
+            Refusal::TooManyNodes => 3,
+            Refusal::TooDeep => 4,
+            Refusal::WrongKind => 5,
+            Refusal::Magnitude => 6,
+            Refusal::NotInTime => 7,
+            Refusal::Settings => 8,
+            Refusal::Table => 9,
+            Refusal::Length => 10,
+            Refusal::Reads => 11,
+            Refusal::Caller => 12,
+            Refusal::NoRoom => 13,
+            Refusal::OutOfRange => 14,
+        }
     }
 }
 
-// The number of nodes that were read, or the refusal.
-#[derive(Clone, Copy)]
-pub enum Reading {
-    Nodes(usize),
-    Refused(Refusal),
+pub fn number_of(refusal: Refusal) -> u8
+    ensures { result ≡ number_of refusal }
+{
+    u8::from(refusal)
 }
 
 fn longest(form: TextForm) -> usize
@@ -76,27 +77,22 @@ fn longest(form: TextForm) -> usize
     }
 }
 
-fn read_text(form: TextForm, text: &[u8], nodes: &mut [i64]) -> Reading
+fn read_text(form: TextForm, text: &[u8], nodes: &mut [i64]) -> Result<usize, Refusal>
     requires { Roomy text.now nodes.old }
     ensures is { ReadInto (form_of form) (text_as_read (form_of form) text.now) nodes.new result }
     ensures kept { length nodes.new ≡ length nodes.old }
 {
     if longest(form) < text.len() {
-        return Reading::Refused(Refusal::TooLong);
+        return Err(Refusal::TooLong);
     }
-    match read_rows(form, text, nodes) {
-        Read::Done { next, count } => {
-            if next <= text.len() {
-                Reading::Refused(Refusal::NotOfForm)
-            } else {
-                Reading::Nodes(count)
-            }
-        }
-        Read::Stopped(n) => Reading::Refused(n),
+    let read = read_rows(form, text, nodes)?;
+    if read.next <= text.len() {
+        return Err(Refusal::NotOfForm);
     }
+    Ok(read.count)
 }
 
-pub fn read_plan(text: &[u8], nodes: &mut [i64]) -> Reading
+pub fn read_plan(text: &[u8], nodes: &mut [i64]) -> Result<usize, Refusal>
     requires { Roomy text.now nodes.old }
     ensures is { ReadInto plan_form (text_as_read plan_form text.now) nodes.new result }
     ensures kept { length nodes.new ≡ length nodes.old }
@@ -104,7 +100,7 @@ pub fn read_plan(text: &[u8], nodes: &mut [i64]) -> Reading
     read_text(TextForm::Plan, text, nodes)
 }
 
-pub fn read_payoff(text: &[u8], nodes: &mut [i64]) -> Reading
+pub fn read_payoff(text: &[u8], nodes: &mut [i64]) -> Result<usize, Refusal>
     requires { Roomy text.now nodes.old }
     ensures is { ReadInto payoff_form (text_as_read payoff_form text.now) nodes.new result }
     ensures kept { length nodes.new ≡ length nodes.old }
@@ -113,7 +109,7 @@ pub fn read_payoff(text: &[u8], nodes: &mut [i64]) -> Reading
 }
 
 // The number of a plan's nodes: a caller with a table of its own.
-pub fn plan_nodes(text: &[u8]) -> Reading
+pub fn plan_nodes(text: &[u8]) -> Result<usize, Refusal>
     ensures { CountIs (text_as_read plan_form text.now) result }
 {
     let mut nodes = [0i64; 2560];

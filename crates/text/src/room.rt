@@ -7,22 +7,17 @@ ghost use Rattle.text.specs.Room.{letters_in};
 fn count_of(b: u8) -> u8
     ensures { result ≡ cond (leb (byte "A") b) 1 0 }
 {
-    if b < b'A' {
-        return 0;
-    }
-    1
+    u8::from(b'A' <= b)
 }
 
 // The letters among so few bytes that a byte counts them: the compiler then looks at sixteen at a time.
-fn letters_among(text: &[u8], from: usize, to: usize) -> u8
-    requires { (from ≤ to) × (to ≤ length text.now) × (to ≤ from + 255) }
-    ensures { letters_in (drop from text.now) ≡ result + letters_in (drop to text.now) }
+fn letters_among(part: &[u8]) -> u8
+    requires { length part.now ≤ 255 }
+    ensures { result ≡ letters_in part.now }
 {
     let mut found = 0u8;
-    let mut i = from;
-    while i < to {
-        found += count_of(text[i]);
-        i += 1;
+    for b in part {
+        found += count_of(*b);
     }
     found
 }
@@ -31,13 +26,13 @@ fn letters_among(text: &[u8], from: usize, to: usize) -> u8
 fn letters(text: &[u8]) -> usize
     ensures { result ≡ letters_in text.now }
 {
+    let parts = text.chunks_exact(224);
+    let rest = parts.remainder();
     let mut found: usize = 0;
-    let mut at = 0;
-    while 224 <= text.len() - at {
-        found += letters_among(text, at, at + 224) as usize;
-        at += 224;
+    for part in parts {
+        found += usize::from(letters_among(part));
     }
-    found + letters_among(text, at, text.len()) as usize
+    found + usize::from(letters_among(rest))
 }
 
 // As many letters as a text has, at least. A long text is not looked at: it has no more than bytes.

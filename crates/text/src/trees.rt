@@ -1,5 +1,5 @@
 // A node by the letter table: its letter and fields, read from a text into the table, five numbers a node.
-ghost use Rattle.std.specs.Prelude.{◌≡◌, ◌∷◌, [], ◌+◌, ◌*◌, ◌≤◌, ◌<◌, pos, length, drop, take};
+ghost use Rattle.std.specs.Prelude.{◌≡◌, ◌∷◌, [], ◌+◌, ◌*◌, ◌≤◌, ◌<◌, pos, length, drop, take, Ok};
 ghost use Rattle.std.proofs.lemmas.List.Edits.{sets};
 ghost use Rattle.fields.specs.Positions.{up_to};
 ghost use Rattle.text.specs.Letters.{form_of, kind_at};
@@ -7,21 +7,12 @@ ghost use Rattle.text.specs.Packed.{row_of};
 ghost use Rattle.text.specs.Room.{Roomy, letters_in};
 ghost use Rattle.text.specs.Rows.{RowIs, kids_of, open_row};
 ghost use Rattle.text.specs.Trees.{OpenedIs, SoleIs};
-ghost use Rattle.text.specs.declared.whole.Row.TheVariants.{Open};
 
-use crate::letters::{TextForm, shape_of};
-use crate::{Refusal, number_of};
-use fields::field::NONE;
-use fields::slots::{Slots, read_fields};
+use crate::Refusal;
+use crate::letters::{NONE, TextForm, shape_of};
+use fields::slots::read_fields;
 
 pub const MAX_NODES: usize = 512;
-
-// A field of a single byte.
-#[derive(Clone, Copy)]
-pub enum Sole {
-    Byte(u8),
-    Other,
-}
 
 // A node's letter and fields, the byte behind them, and the kinds of its children.
 #[derive(Clone, Copy)]
@@ -37,94 +28,67 @@ pub struct Head {
     pub kid3: u8,
 }
 
-#[derive(Clone, Copy)]
-pub enum Opened {
-    Node(Head),
-    Closed(Refusal),
-}
-
-pub fn letter_at(text: &[u8], at: usize) -> Sole
+pub fn letter_at(text: &[u8], at: usize) -> Option<u8>
     requires { at ≤ length text.now }
     ensures { SoleIs (up_to 44 (drop at text.now)) result }
 {
-    if at == text.len() {
-        return Sole::Other;
+    if at == text.len() || text[at] == b',' {
+        return None;
     }
-    let b = text[at];
-    if b == b',' {
-        return Sole::Other;
+    if text.len() - at != 1 && text[at + 1] != b',' {
+        return None;
     }
-    if text.len() - at == 1 {
-        return Sole::Byte(b);
-    }
-    if text[at + 1] == b',' {
-        return Sole::Byte(b);
-    }
-    Sole::Other
+    Some(text[at])
 }
 
 // In this order: unknown letter, wrong kind, too many nodes, too deep, a field not of the form.
-fn open_any(form: TextForm, text: &[u8], at: usize, kind: u8, count: usize, left: usize) -> Opened
+fn open_any(
+    form: TextForm,
+    text: &[u8],
+    at: usize,
+    kind: u8,
+    count: usize,
+    left: usize,
+) -> Result<Head, Refusal>
     requires { (at ≤ length text.now + 1) × (0 < kind) × (kind ≤ 3) }
     ensures { OpenedIs (form_of form) left (kind_at kind) text.now at count result }
 {
     if text.len() < at {
-        return Opened::Closed(Refusal::NotOfForm);
+        return Err(Refusal::NotOfForm);
     }
-    match letter_at(text, at) {
-        Sole::Byte(letter) => {
-            let s = shape_of(form, letter);
-            if s.kind == NONE {
-                return Opened::Closed(Refusal::NotOfForm);
-            }
-            if s.kind != kind {
-                return Opened::Closed(Refusal::WrongKind);
-            }
-            if MAX_NODES <= count {
-                return Opened::Closed(Refusal::TooManyNodes);
-            }
-            if left == 0 {
-                return Opened::Closed(Refusal::TooDeep);
-            }
-            if s.first == NONE {
-                return Opened::Node(Head {
-                    letter,
-                    a: 0,
-                    b: 0,
-                    c: 0,
-                    d: 0,
-                    next: at + 2,
-                    kid1: s.kid1,
-                    kid2: s.kid2,
-                    kid3: s.kid3,
-                });
-            }
-            match read_fields(text, at + 2, s.first, s.second, s.third) {
-                Slots::Filled { a, b, c, d, next } => {
-                    Opened::Node(Head {
-                        letter,
-                        a,
-                        b,
-                        c,
-                        d,
-                        next,
-                        kid1: s.kid1,
-                        kid2: s.kid2,
-                        kid3: s.kid3,
-                    })
-                }
-                Slots::Unfilled => Opened::Closed(Refusal::NotOfForm),
-            }
-        }
-        Sole::Other => Opened::Closed(Refusal::NotOfForm),
+    let letter = letter_at(text, at).ok_or(Refusal::NotOfForm)?;
+    let s = shape_of(form, letter);
+    if s.kind == NONE {
+        return Err(Refusal::NotOfForm);
     }
+    if s.kind != kind {
+        return Err(Refusal::WrongKind);
+    }
+    if MAX_NODES <= count {
+        return Err(Refusal::TooManyNodes);
+    }
+    if left == 0 {
+        return Err(Refusal::TooDeep);
+    }
+    let f = read_fields(text, at + 2, s.first, s.second, s.third).ok_or(Refusal::NotOfForm)?;
+    Ok(Head {
+        letter,
+        a: f.a,
+        b: f.b,
+        c: f.c,
+        d: f.d,
+        next: f.next,
+        kid1: s.kid1,
+        kid2: s.kid2,
+        kid3: s.kid3,
+    })
 }
 
 pub fn put_row(nodes: &mut [i64], i: usize, letter: u8, a: i64, b: i64, c: i64, d: i64)
     requires { 5 * i + 5 ≤ length nodes.old }
     ensures { nodes.new ≡ sets nodes.old (5 * i) (pos letter ∷ a ∷ b ∷ c ∷ d ∷ []) }
 {
-    nodes::put_row(nodes, i, letter as i64, a, b, c, d);
+    nodes::put_row(nodes, i, i64::from(letter), a, b, c, d);
 }
 
 // The row of a node that was opened: its links are put in when its second and third child begin.
@@ -142,9 +106,9 @@ fn put_opened(nodes: &mut [i64], i: usize, h: Head)
 // What was opened as one number, which is handed back faster: 64 times the byte behind it and one, and the kinds of its children in base 4.
 fn number_for(h: Head) -> usize
     requires { (h.next ≤ 53761) × (h.kid1 ≤ 3) × (h.kid2 ≤ 3) × (h.kid3 ≤ 3) }
-    ensures { row_of result ≡ Open h.next (kids_of h) }
+    ensures { row_of result ≡ Ok (record { next = h.next; kids = kids_of h }) }
 {
-    (h.next + 1) * 64 + (h.kid1 + 4 * h.kid2 + 16 * h.kid3) as usize
+    (h.next + 1) * 64 + usize::from(h.kid1 + 4 * h.kid2 + 16 * h.kid3)
 }
 
 // Any node's letter and fields by the letter table, as row `count`; a refusal is its own number.
@@ -161,10 +125,10 @@ pub fn open_by_table(
     ensures { RowIs (form_of form) left (kind_at kind) text.now at nodes.old nodes.new count (row_of result) }
 {
     match open_any(form, text, at, kind, count, left) {
-        Opened::Node(h) => {
+        Ok(h) => {
             put_opened(nodes, count, h);
             number_for(h)
         }
-        Opened::Closed(refusal) => number_of(refusal) as usize,
+        Err(refusal) => usize::from(u8::from(refusal)),
     }
 }

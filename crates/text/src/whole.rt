@@ -8,28 +8,20 @@ ghost use Rattle.text.specs.Whole.{ReadIs};
 
 use crate::Refusal;
 use crate::edges::open_general;
-use crate::letters::{ROOT, TextForm};
-use crate::quick::{Quick, quick_row, stands_at};
+use crate::letters::{NONE, ROOT, TextForm};
+use crate::quick::{Opened, quick_row, stands_at};
 use crate::trees::MAX_NODES;
-use fields::field::NONE;
 
 const MAX_DEPTH: usize = 32;
 
-// The byte behind a node that was opened and the kinds of its children in base 4, the first lowest; or the refusal.
-#[derive(Clone, Copy)]
-pub enum Row {
-    Open { next: usize, kids: u8 },
-    Shut(Refusal),
-}
-
 // The byte behind what was read, and the number of nodes.
 #[derive(Clone, Copy)]
-pub enum Read {
-    Done { next: usize, count: usize },
-    Stopped(Refusal),
+pub struct Read {
+    pub next: usize,
+    pub count: usize,
 }
 
-// The refusal of a number.
+// The refusal of a number that stands for one. No TryFrom: the numbers come from `number_of` alone, so its error could not happen.
 fn refusal_of(n: usize) -> Refusal
     ensures { result ≡ refusal_for n }
 {
@@ -52,16 +44,16 @@ fn refusal_of(n: usize) -> Refusal
 }
 
 // What such a number stands for.
-fn row_of(r: usize) -> Row
+fn row_of(r: usize) -> Result<Opened, Refusal>
     ensures { result ≡ row_of r }
 {
     if r < 64 {
-        return Row::Shut(refusal_of(r));
+        return Err(refusal_of(r));
     }
-    Row::Open {
+    Ok(Opened {
         next: r / 64 - 1,
         kids: (r % 64) as u8,
-    }
+    })
 }
 
 // A node as row `count`, the commonest ways first.
@@ -73,20 +65,13 @@ fn open_row(
     nodes: &mut [i64],
     count: usize,
     left: usize,
-) -> Row
+) -> Result<Opened, Refusal>
     requires { (at ≤ length text.now + 1) × (length text.now ≤ 53760) × Roomy text.now nodes.old × (count ≤ letters_in (take at text.now)) × (0 < kind) × (kind ≤ 3) }
     ensures { RowIs (form_of form) left (kind_at kind) text.now at nodes.old nodes.new count result }
 {
-    if count < MAX_NODES {
-        if 0 < left {
-            if stands_at(text, at) {
-                match quick_row(form, text, at, kind, nodes, count) {
-                    Quick::Opened { next, kids } => {
-                        return Row::Open { next, kids };
-                    }
-                    Quick::Other => {}
-                }
-            }
+    if count < MAX_NODES && 0 < left && stands_at(text, at) {
+        if let Some(row) = quick_row(form, text, at, kind, nodes, count) {
+            return Ok(row);
         }
     }
     row_of(open_general(form, text, at, kind, nodes, count, left))
@@ -106,11 +91,11 @@ fn waiting_for(own: usize, left: usize, kids: u8) -> usize
     requires { (own < 512) × (left < 32) }
     ensures { result ≡ own * 2048 + left * 32 + kids }
 {
-    own * 2048 + left * 32 + kids as usize
+    own * 2048 + left * 32 + usize::from(kids)
 }
 
 // All nodes of a text. A leaf is followed by the next child of the innermost node that waits for one.
-pub fn read_rows(form: TextForm, text: &[u8], nodes: &mut [i64]) -> Read
+pub fn read_rows(form: TextForm, text: &[u8], nodes: &mut [i64]) -> Result<Read, Refusal>
     requires { (length text.now ≤ 53760) × Roomy text.now nodes.old }
     ensures is { ReadIs (form_of form) text.now nodes.new result }
     ensures kept { length nodes.new ≡ length nodes.old }
@@ -119,40 +104,36 @@ pub fn read_rows(form: TextForm, text: &[u8], nodes: &mut [i64]) -> Read
     let mut waiting: usize = 0;
     let mut count: usize = 0;
     let mut left: usize = MAX_DEPTH;
-    let mut row = row_of(open_general(form, text, 0, ROOT, nodes, 0, MAX_DEPTH));
+    let mut opened = row_of(open_general(form, text, 0, ROOT, nodes, 0, MAX_DEPTH))?;
     loop {
-        match row {
-            Row::Open { next, kids } => {
-                let mut kind = kids % 4;
-                // a leaf
-                if kind == NONE {
-                    count += 1;
-                    if waiting == 0 {
-                        return Read::Done { next, count };
-                    }
-                    let entry = stack[waiting - 1];
-                    put_link(nodes, entry / 2048, entry / 16 % 2, count);
-                    left = entry / 32 % 64;
-                    kind = (entry % 4) as u8;
-                    // 4 and more where a third child is still to come
-                    if entry % 16 < 4 {
-                        waiting -= 1;
-                    } else {
-                        stack[waiting - 1] = entry - entry % 16 + 16 + entry % 16 / 4;
-                    }
-                } else {
-                    left -= 1;
-                    if kids / 4 % 4 != NONE {
-                        stack[waiting] = waiting_for(count, left, kids / 4);
-                        waiting += 1;
-                    }
-                    count += 1;
-                }
-                row = open_row(form, text, next, kind, nodes, count, left);
+        let mut kind = opened.kids % 4;
+        // a leaf
+        if kind == NONE {
+            count += 1;
+            if waiting == 0 {
+                return Ok(Read {
+                    next: opened.next,
+                    count,
+                });
             }
-            Row::Shut(refusal) => {
-                return Read::Stopped(refusal);
+            let entry = stack[waiting - 1];
+            put_link(nodes, entry / 2048, entry / 16 % 2, count);
+            left = entry / 32 % 64;
+            kind = (entry % 4) as u8;
+            // 4 and more where a third child is still to come
+            if entry % 16 < 4 {
+                waiting -= 1;
+            } else {
+                stack[waiting - 1] = entry - entry % 16 + 16 + entry % 16 / 4;
             }
+        } else {
+            left -= 1;
+            if opened.kids / 4 % 4 != NONE {
+                stack[waiting] = waiting_for(count, left, opened.kids / 4);
+                waiting += 1;
+            }
+            count += 1;
         }
+        opened = open_row(form, text, opened.next, kind, nodes, count, left)?;
     }
 }

@@ -8,17 +8,20 @@ ghost use Rattle.language.specs.Sheet.{sheet_call};
 ghost use Rattle.payments.specs.Answers.{paying_answer, stepping_answer};
 ghost use Rattle.payoff.specs.Answers.{writing_answer};
 ghost use Rattle.payoff.specs.Evaluating.{evaluating_answer};
-ghost use Rattle.rules.specs.Answers.{Natural, checking_answer, given_of};
+ghost use Rattle.rules.specs.Answers.{Natural, checking_answer};
+ghost use Rattle.tables.specs.Given.{given_of};
 ghost use Rattle.text.specs.Refusals.{number_of};
 ghost use Rattle.unit.specs.Returned.{bytes_only, into_answer, into_both, measures, money, money_bytes, put};
 ghost use Rattle.unit.specs.Within.{Counted};
 ghost use Rattle.writer.specs.Answers.{written_answer};
 
-use payments::{Paying, Stepping};
-use payoff::{Evaluating, Writing};
-use rules::Checking;
+use integers::{Millionths, Pence};
+use payments::Stepping;
+use rules::Accepted;
+use tables::Span;
+use tables::given::Given;
 use text::Refusal;
-use writer::Written;
+use writer::NoRoom;
 
 const DONE: i32 = 0;
 
@@ -56,61 +59,61 @@ fn refused(refusal: Refusal) -> i32
 
 // ---- what the engine's calls answered, into `answer`
 
-fn tell_check(checking: Checking, answer: &mut [i64]) -> i32
+fn tell_check(checking: Result<Accepted, Refusal>, answer: &mut [i64]) -> i32
     requires { Natural checking }
     ensures { (result, answer.new) ≡ into_answer measures answer.old (checking_answer checking) }
 {
     match checking {
-        Checking::Accepted(length, magnitude) => { put_two(answer, length.0, magnitude.0) }
-        Checking::Refused(refusal) => refused(refusal),
+        Ok(plan) => { put_two(answer, plan.length.0, plan.magnitude.0) }
+        Err(refusal) => refused(refusal),
     }
 }
 
-fn tell_payment(paying: Paying, answer: &mut [i64]) -> i32
+fn tell_payment(paying: Result<Pence, Refusal>, answer: &mut [i64]) -> i32
     ensures { (result, answer.new) ≡ into_answer money answer.old (paying_answer paying) }
 {
     match paying {
-        Paying::Pays(pence) => put_one(answer, pence.0),
-        Paying::Refused(refusal) => refused(refusal),
+        Ok(pence) => put_one(answer, pence.0),
+        Err(refusal) => refused(refusal),
     }
 }
 
-fn tell_step(stepping: Stepping, answer: &mut [i64]) -> i32
+fn tell_step(stepping: Result<Stepping, Refusal>, answer: &mut [i64]) -> i32
     requires { Counted (stepping_answer stepping) }
     ensures { (result, answer.new) ≡ into_answer money_bytes answer.old (stepping_answer stepping) }
 {
     match stepping {
-        Stepping::Stepped(pence, bytes) => put_two(answer, pence.0, bytes as i64),
-        Stepping::Refused(refusal) => refused(refusal),
+        Ok(stepped) => put_two(answer, stepped.pence.0, stepped.bytes as i64),
+        Err(refusal) => refused(refusal),
     }
 }
 
-fn tell_bytes(writing: Writing, answer: &mut [i64]) -> i32
+fn tell_bytes(writing: Result<usize, Refusal>, answer: &mut [i64]) -> i32
     requires { Counted (writing_answer writing) }
     ensures { (result, answer.new) ≡ into_answer bytes_only answer.old (writing_answer writing) }
 {
     match writing {
-        Writing::Bytes(bytes) => put_one(answer, bytes as i64),
-        Writing::Refused(refusal) => refused(refusal),
+        Ok(bytes) => put_one(answer, bytes as i64),
+        Err(refusal) => refused(refusal),
     }
 }
 
-fn tell_value(evaluating: Evaluating, answer: &mut [i64]) -> i32
+fn tell_value(evaluating: Result<Millionths, Refusal>, answer: &mut [i64]) -> i32
     ensures { (result, answer.new) ≡ into_answer money answer.old (evaluating_answer evaluating) }
 {
     match evaluating {
-        Evaluating::Value(value) => put_one(answer, value.0),
-        Evaluating::Refused(refusal) => refused(refusal),
+        Ok(value) => put_one(answer, value.0),
+        Err(refusal) => refused(refusal),
     }
 }
 
-fn tell_sheet(written: Written, answer: &mut [i64]) -> i32
+fn tell_sheet(written: Result<usize, NoRoom>, answer: &mut [i64]) -> i32
     requires { Counted (written_answer written) }
     ensures { (result, answer.new) ≡ into_answer bytes_only answer.old (written_answer written) }
 {
     match written {
-        Written::Bytes(bytes) => put_one(answer, bytes as i64),
-        Written::NoRoom => NO_ROOM,
+        Ok(bytes) => put_one(answer, bytes as i64),
+        Err(NoRoom) => NO_ROOM,
     }
 }
 
@@ -142,7 +145,14 @@ pub extern "C" fn codhungu_check(
     ensures { (result, answer.new) ≡ into_answer measures answer.old (check_call plan.now
         (given_of days.now h f factors.now bounds.now values.now) today) }
 {
-    let checking = rules::check(plan, days, h, f, factors, bounds, values, today);
+    let given = Given {
+        days,
+        span: Span { h, f },
+        factors,
+        bounds,
+        values,
+    };
+    let checking = rules::check(plan, &given, today);
     tell_check(checking, answer)
 }
 
@@ -165,9 +175,14 @@ pub extern "C" fn codhungu_payment(
     ensures { (result, answer.new) ≡ into_answer money answer.old (payment_call plan.now
         (given_of days.now h f factors.now bounds.now values.now) today p q month) }
 {
-    let paying = payments::payment(
-        plan, days, h, f, factors, bounds, values, today, p, q, month,
-    );
+    let given = Given {
+        days,
+        span: Span { h, f },
+        factors,
+        bounds,
+        values,
+    };
+    let paying = payments::payment(plan, &given, today, p, q, month);
     tell_payment(paying, answer)
 }
 
@@ -192,19 +207,14 @@ pub extern "C" fn codhungu_step(
         (given_of days.now h f factors.now bounds.now values.now) today p q out.old) }
 {
     let end = usable(out.len(), answer.len(), 2);
-    let stepping = payments::step(
-        plan,
+    let given = Given {
         days,
-        h,
-        f,
+        span: Span { h, f },
         factors,
         bounds,
         values,
-        today,
-        p,
-        q,
-        &mut out[..end],
-    );
+    };
+    let stepping = payments::step(plan, &given, today, p, q, &mut out[..end]);
     tell_step(stepping, answer)
 }
 
@@ -248,7 +258,14 @@ pub extern "C" fn codhungu_evaluate(
     ensures { (result, answer.new) ≡ into_answer money answer.old (evaluate_call payoff.now
         (given_of days.now h f factors.now bounds.now values.now) p q month) }
 {
-    let evaluating = payoff::evaluate(payoff, days, h, f, factors, bounds, values, month, p, q);
+    let given = Given {
+        days,
+        span: Span { h, f },
+        factors,
+        bounds,
+        values,
+    };
+    let evaluating = payoff::evaluate(payoff, &given, month, p, q);
     tell_value(evaluating, answer)
 }
 

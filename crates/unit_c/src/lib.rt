@@ -4,7 +4,7 @@
 ghost use Rattle.std.specs.Prelude.{◌≡◌};
 ghost use Rattle.language.specs.Calls.{check_call, compile_call, cut_call, evaluate_call, payment_call, step_call};
 ghost use Rattle.language.specs.Sheet.{sheet_call};
-ghost use Rattle.rules.specs.Answers.{given_of};
+ghost use Rattle.tables.specs.Given.{given_of};
 ghost use Rattle.unit.specs.Returned.{bytes_only, into_answer, into_both, measures, money, money_bytes};
 
 // Length and magnitude of an accepted plan.

@@ -1,7 +1,9 @@
 // Document 01's plan compiled to its payoff, the payoff cut, and what both are worth to the pair 1, 2 in millionths of a penny.
 #![tactic(auto)]
 
-use payoff::{Evaluating, Writing};
+use tables::Span;
+use tables::given::Given;
+use text::Refusal;
 
 fn print_refused(number: u8) {
     io::write_all(1, b"refused,");
@@ -10,15 +12,15 @@ fn print_refused(number: u8) {
 }
 
 // The text that a call wrote, printed; how many bytes it has.
-fn print_text(writing: Writing, text: &[u8]) -> usize {
+fn print_text(writing: Result<usize, Refusal>, text: &[u8]) -> usize {
     match writing {
-        Writing::Bytes(bytes) => {
+        Ok(bytes) => {
             let n = outputs::within(bytes, text);
             io::write_all(1, &text[..n]);
             io::write_all(1, b"\n");
             n
         }
-        Writing::Refused(refusal) => {
+        Err(refusal) => {
             print_refused(text::number_of(refusal));
             0
         }
@@ -47,21 +49,17 @@ fn print_value(value: i64) {
 // What the payoff in the first bytes is worth, `month` being the month now.
 fn evaluate(text: &[u8], bytes: usize, month: i64) {
     let n = outputs::within(bytes, text);
-    let evaluating = payoff::evaluate(
-        &text[..n],
-        &[2],
-        0,
-        2,
-        &[1000000, 990000, 980000],
-        &[200],
-        &[90, 100, 130],
-        month,
-        1,
-        2,
-    );
+    let given = Given {
+        days: &[2],
+        span: Span { h: 0, f: 2 },
+        factors: &[1000000, 990000, 980000],
+        bounds: &[200],
+        values: &[90, 100, 130],
+    };
+    let evaluating = payoff::evaluate(&text[..n], &given, month, 1, 2);
     match evaluating {
-        Evaluating::Value(value) => print_value(value.0),
-        Evaluating::Refused(refusal) => print_refused(text::number_of(refusal)),
+        Ok(value) => print_value(value.0),
+        Err(refusal) => print_refused(text::number_of(refusal)),
     }
 }
 

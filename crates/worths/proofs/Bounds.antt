@@ -8,7 +8,6 @@ use mathlib.Core.Logic.{inl}
 use mathlib.Core.Path.{◌∙◌, ◌≡◌, refl, subst, sym}
 use native.Mathlib.Omega.{arith}
 use Rattle.integers.specs.Bounded.{SmallValue, value_within}
-use Rattle.integers.specs.declared.BoundedValue.TheVariants as value
 use Rattle.language.specs.Answer.{Answer, got, refused}
 use Rattle.language.specs.Limits.{max_value}
 use Rattle.language.specs.Payments.Amounts.{Lookup}
@@ -18,14 +17,15 @@ use Rattle.language.specs.Text.Trees.{Payoff, await, cut, leaf, nil, plus, times
 use Rattle.checked.proofs.Refusals.{Within, amount_evaluated, both, came, either, in_range_lem, refuses, test_evaluated, then, wait_evaluated}
 use Rattle.worths.specs.Answers.{SmallWorth, value_answer, worth_answer}
 use Rattle.checked.specs.Evaluated.{Evaluated}
-use Rattle.worths.specs.declared.answers.Worth.{Worth}
-use Rattle.worths.specs.declared.answers.Worth.TheVariants as worth
+use Rattle.std.specs.Prelude.{Err, None, Ok, Result, Some}
+use Rattle.integers.specs.declared.Millionths.{Millionths}
+use Rattle.text.specs.declared.Refusal.{Refusal}
 
 pub value_within_lem : (z : ℤ) → value_answer (value_within z) ≡ in_range max_value z
 unfolding value_within in_range
 value_within_lem z = go (leb (nat_abs z) max_value)
   where
-    go : (b : Bool) → value_answer (cond b (value.Within (record { 0 = z })) value.OutOfRange) ≡ cond b (got z) (refused 14)
+    go : (b : Bool) → value_answer (cond b (Some (record { 0 = z })) None) ≡ cond b (got z) (refused 14)
     go true = refl
     go false = refl
 
@@ -49,6 +49,6 @@ module _ (L : Ranges) (idx : Lookup) (fac : ℤ → ℤ) (sg : Sign) (now : ℕ)
         let h = worth_evaluated x w in
         record { value = λ z g. record { small = subst (λ n. nat_abs z ≤ n) l (h.value z (sym e ∙ g)).within }; refusal = λ n g. h.refusal n (sym e ∙ g) }
 
-    pub worth_small : (v : Worth) → worth_answer v ≡ checked_worth L idx fac sg now x w → SmallWorth v
-    worth_small (worth.Value v) e = (worth_codable e).value v.0 refl
-    worth_small (worth.Refused k) e = tt
+    pub worth_small : (v : Result Millionths Refusal) → worth_answer v ≡ checked_worth L idx fac sg now x w → SmallWorth v
+    worth_small (Ok v) e = (worth_codable e).value v.0 refl
+    worth_small (Err k) e = tt

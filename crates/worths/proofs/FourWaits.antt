@@ -23,8 +23,10 @@ use Rattle.language.specs.Payoff.Evaluate.{checked_tried}
 use Rattle.nodes.specs.Table.{nat_of}
 use Rattle.worths.proofs.WaitLoop.{Answers, Waiting, all, small_month, tried_next, tried_now, until}
 use Rattle.worths.specs.Waits.{WaitKnown, WaitsIn, wait_answer}
-use Rattle.worths.specs.declared.wait.Wait.{Wait}
-use Rattle.worths.specs.declared.wait.Wait.TheVariants.{Held}
+use Rattle.amounts.specs.declared.wait.Wait.{Wait}
+use Rattle.amounts.specs.declared.wait.Wait.TheVariants.{Held, Missed}
+use Rattle.std.specs.Prelude.{Err, Ok, Result}
+use Rattle.text.specs.declared.Refusal.{Refusal}
 
 -- months in which the test fails are passed
 tried_past : (t : ℕ → Answer Bool) (k n m : ℕ) → k ≤ n → ((j : ℕ) → j < k → t (m + j) ≡ got false) → checked_tried t n m ≡ checked_tried t (n - k) (m + k)
@@ -53,7 +55,7 @@ module _ (t : ℕ → Answer Bool) (first d last : ℤ) (h : WaitsIn first d) (e
     pub rest_months : WaitsIn month rest
     rest_months = record { first_known = w.known; delay_known = rest_is.0; within = omega (arith, rest_is.1, w.within, end.is, h.within) }
 
-    pub rest_waits : (r : Wait) → (wait_answer r ≡ checked_tried t (nat_of rest) (nat_of month)) × WaitKnown r → Answers t first d last h e r
+    pub rest_waits : (r : Result Wait Refusal) → (wait_answer r ≡ checked_tried t (nat_of rest) (nat_of month)) × WaitKnown r → Answers t first d last h e r
     rest_waits r q = (q.0 ∙ ap (λ n. checked_tried t n (nat_of month)) rest_is.1 ∙ sym (all t first d last h e month w), q.1)
 
   -- four months and one behind them are left, `next` the month behind the four
@@ -89,7 +91,7 @@ module _ (t : ℕ → Answer Bool) (first d last : ℤ) (h : WaitsIn first d) (e
         pub first_small : Small k
         first_small = rw ek (small_month (pos (first_that_holds x)) tt (omega (arith, fourth)))
 
-        pub held : (m : ℤ) → m ≡ month +ℤ k → Answers t first d last h e (Held (record { 0 = m }))
+        pub held : (m : ℤ) → m ≡ month +ℤ k → Answers t first d last h e (Ok (Held (record { 0 = m })))
         held m em =
             let u = first_of_four x fourth in
             let a = later_is month (pos (first_that_holds x)) m w.known tt (em ∙ ap (λ z. month +ℤ z) ek) in

@@ -23,8 +23,10 @@ use Rattle.nodes.specs.Table.{nat_of}
 use Rattle.text.specs.Refusals.{number_of}
 use Rattle.text.specs.declared.Refusal.{Refusal}
 use Rattle.worths.specs.Waits.{WaitKnown, WaitsIn, wait_answer}
-use Rattle.worths.specs.declared.wait.Wait.{Wait}
-use Rattle.worths.specs.declared.wait.Wait.TheVariants.{Held, Missed, Refused}
+use Rattle.amounts.specs.declared.wait.Wait.{Wait}
+use Rattle.amounts.specs.declared.wait.Wait.TheVariants.{Held, Missed}
+use Rattle.std.specs.Prelude.{Err, Ok, Result}
+use Rattle.text.specs.declared.Refusal.{Refusal}
 
 -- ---- one step of the definition
 
@@ -71,7 +73,7 @@ module _ (t : ℕ → Answer Bool) (first d last : ℤ) (h : WaitsIn first d) (e
   start = record { known = h.first_known; within = omega (arith, until.is); same = refl }
 
   -- what the loop answers
-  abbrev pub Answers : Wait → Type 0
+  abbrev pub Answers : Result Wait Refusal → Type 0
   Answers r = (wait_answer r ≡ checked_tried t (nat_of d) (nat_of first)) × WaitKnown r
 
   module _ (month : ℤ) (w : Waiting t first last month) where
@@ -86,10 +88,10 @@ module _ (t : ℕ → Answer Bool) (first d last : ℤ) (h : WaitsIn first d) (e
     pub month_small : Small month
     month_small = small_month month w.known month_in_lem.within
 
-    pub held : t (nat_of month) ≡ got true → Answers (Held (record { 0 = month }))
+    pub held : t (nat_of month) ≡ got true → Answers (Ok (Held (record { 0 = month })))
     held eh = (sym (all ∙ tried_now t (nat_of month) (nat_of last - nat_of month) eh), w.known)
 
-    pub stopped : (k : Refusal) {n : ℕ} → number_of k ≡ n → t (nat_of month) ≡ refused n → Answers (Refused k)
+    pub stopped : (k : Refusal) {n : ℕ} → number_of k ≡ n → t (nat_of month) ≡ refused n → Answers (Err k)
     stopped k en er = (ap refused en ∙ sym (all ∙ tried_refused t (nat_of month) (nat_of last - nat_of month) er), tt)
 
     -- the test fails, and `next` is the month to try after it
@@ -97,7 +99,7 @@ module _ (t : ℕ → Answer Bool) (first d last : ℤ) (h : WaitsIn first d) (e
       after : Later month (pos 1) next
       after = later_is month (pos 1) next w.known tt en
 
-      pub missed : lt_z (rd last) (rd next) ≡ true → Answers (Missed (record { 0 = last }))
+      pub missed : lt_z (rd last) (rd next) ≡ true → Answers (Ok (Missed (record { 0 = last })))
       missed el =
           let o = order last next until.known after.known (rw (to_z-of_z fl, to_z-of_z fn) at el) in
           let z : nat_of last - nat_of month ≡ 0 = omega (arith, o, after.is) in

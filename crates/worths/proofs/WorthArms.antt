@@ -28,7 +28,9 @@ use Rattle.worths.specs.Answers.{SmallWorth, worth_answer}
 use Rattle.worths.specs.Checked.{worth_in}
 use Rattle.checked.specs.Evaluated.{Evaluated}
 use Rattle.worths.specs.Leaf.{leaf_in}
-use Rattle.worths.specs.declared.answers.Worth.{Worth}
+use Rattle.std.specs.Prelude.{Result}
+use Rattle.integers.specs.declared.Millionths.{Millionths}
+use Rattle.text.specs.declared.Refusal.{Refusal}
 
 -- no month of the table lies before month 0
 from_zero : (f : ℤ) (factors : List ℤ) (m sign : ℤ) → leaf_in f factors (pos 0) m sign ≡ cond (between (pos 0) f m) (in_range max_value (get_or factors (nat_abs m) (pos 0) *ℤ sign)) (refused 11)
@@ -45,7 +47,7 @@ module _ (h f : ℤ) (factors bounds values : List ℤ) (p q : ℤ) where
   unfolding value_at
   same_value a w = refl
 
-  pub part_small : (x : Payoff ℕ ℤ) (start w : ℕ) (v : Worth) → worth_answer v ≡ worth_in table p q start x w → SmallWorth v
+  pub part_small : (x : Payoff ℕ ℤ) (start w : ℕ) (v : Result Millionths Refusal) → worth_answer v ≡ worth_in table p q start x w → SmallWorth v
   part_small x start w v e = worth_small (ranges_of table) (lookup_of table) (factors_of table) (sign_of p q) start refl x w v e
 
   pub part_codable : (x : Payoff ℕ ℤ) (start w : ℕ) {a : Answer ℤ} → a ≡ worth_in table p q start x w → Evaluated SmallValue a

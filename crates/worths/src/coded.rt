@@ -5,7 +5,6 @@ ghost use Rattle.worths.specs.Answers.{worth_answer};
 ghost use Rattle.checked.specs.Evaluated.{Evaluated};
 ghost use Rattle.worths.specs.Coded.{coded_worth};
 
-use crate::answers::Worth;
 use integers::Millionths;
 use text::Refusal;
 
@@ -13,13 +12,13 @@ const LIMIT: u64 = 9_000_000_000_000_000_000;
 
 const UNREAD: u64 = 9_000_000_000_000_000_011;
 
-pub fn code(w: Worth) -> i64
+pub fn code(w: Result<Millionths, Refusal>) -> i64
     requires { Evaluated SmallValue (worth_answer w) }
     ensures { coded_worth result ≡ worth_answer w }
 {
     match w {
-        Worth::Value(v) => v.0,
-        Worth::Refused(k) => {
+        Ok(v) => v.0,
+        Err(k) => {
             if text::number_of(k) == 11 {
                 9_000_000_000_000_000_011
             } else {
@@ -29,15 +28,15 @@ pub fn code(w: Worth) -> i64
     }
 }
 
-pub fn worth(x: i64) -> Worth
+pub fn worth(x: i64) -> Result<Millionths, Refusal>
     ensures { worth_answer result ≡ coded_worth x }
 {
     let m = integers::magnitude(x);
     if m <= LIMIT {
-        return Worth::Value(Millionths(x));
+        return Ok(Millionths(x));
     }
     if m == UNREAD {
-        return Worth::Refused(Refusal::Reads);
+        return Err(Refusal::Reads);
     }
-    Worth::Refused(Refusal::OutOfRange)
+    Err(Refusal::OutOfRange)
 }

@@ -2,6 +2,7 @@
 #![tactic(auto)]
 
 pub mod answers;
+pub mod asked;
 pub mod coded;
 pub mod fours;
 pub mod leaf;

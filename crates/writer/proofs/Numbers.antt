@@ -24,21 +24,6 @@ rd z = to_z w64 (of_z w64 z)
 not_below : (n : ℕ) → lt_z (pos n) (pos 0) ≡ true → ⊥
 not_below n e = let h : n < 0 = ltb-true n 0 e in omega arith
 
-minus_one : (n : ℕ) → negsuc 0 -ℤ negsuc n ≡ pos n
-minus_one n = ring (⊝ (lit 1) ⊖ ⊝ (lit (suc n))) (lit n) (omega arith)
-
-from_minus_one : (z : ℤ) → lt_z z (pos 0) ≡ true → negsuc 0 -ℤ z ≡ pos (mag z)
-from_minus_one (pos n) e = absurd (not_below n e)
-from_minus_one (negsuc n) e = minus_one n
-
-abs_below : (z : ℤ) → lt_z z (pos 0) ≡ true → mag z + 1 ≡ nat_abs z
-abs_below (pos n) e = absurd (not_below n e)
-abs_below (negsuc n) e = omega arith
-
-abs_above : (z : ℤ) → lt_z z (pos 0) ≡ false → pos (nat_abs z) ≡ z
-abs_above (pos n) e = refl
-abs_above (negsuc n) e = absurd (true≢false e)
-
 mag_abs : (z : ℤ) → nat_abs z ≤ mag z + 1
 mag_abs (pos n) = omega arith
 mag_abs (negsuc n) = omega arith
@@ -46,41 +31,8 @@ mag_abs (negsuc n) = omega arith
 pub abs_small : (z : ℤ) → SFits w64 z → nat_abs z ≤ 2 ^ 63
 abs_small z f = omega (arith, f.sfits, mag_abs z)
 
-module _ (z : ℤ) (f : SFits w64 z) where
-  pub test_is : (t : Bool) → lt_z (rd z) (pos 0) ≡ t → lt_z z (pos 0) ≡ t
-  test_is t e = rw (to_z-of_z f) at e
-
-  module _ (e : lt_z (rd z) (pos 0) ≡ true) where
-    is : negsuc 0 -ℤ rd z ≡ pos (mag z)
-    is = rw (to_z-of_z f) (from_minus_one z (test_is true e))
-
-    pub minus_fits : SFits w64 (negsuc 0 -ℤ rd z)
-    minus_fits = rw is (record { sfits = f.sfits })
-
-    reads : rd (negsuc 0 -ℤ rd z) ≡ pos (mag z)
-    reads = to_z-of_z minus_fits ∙ is
-
-    pub minus_cast : T (non_neg (rd (negsuc 0 -ℤ rd z))) × Fits w64 (nat_abs (rd (negsuc 0 -ℤ rd z)))
-    minus_cast = rw reads (tt, record { fits = omega (arith, f.sfits) })
-
-    pub minus_more : Fits w64 (nat_abs (rd (negsuc 0 -ℤ rd z)) + 1)
-    minus_more = rw reads (record { fits = omega (arith, f.sfits) })
-
-    pub magnitude_below : (nat_abs (rd (negsuc 0 -ℤ rd z)) + 1 ≡ nat_abs z) × (nat_abs (rd (negsuc 0 -ℤ rd z)) + 1 ≤ 2 ^ 63)
-    magnitude_below =
-        let s : nat_abs (rd (negsuc 0 -ℤ rd z)) + 1 ≡ nat_abs z = rw reads (abs_below z (test_is true e)) in
-        (s, omega (arith, abs_small z f))
-
-  module _ (e : lt_z (rd z) (pos 0) ≡ false) where
-    pub plain_cast : T (non_neg (rd z)) × Fits w64 (nat_abs (rd z))
-    plain_cast = rw (to_z-of_z f) (go z (test_is false e), record { fits = omega (arith, abs_small z f) })
-      where
-        go : (z : ℤ) → lt_z z (pos 0) ≡ false → T (non_neg z)
-        go (pos n) e = tt
-        go (negsuc n) e = absurd (true≢false e)
-
-    pub magnitude_above : (nat_abs (rd z) ≡ nat_abs z) × (nat_abs (rd z) ≤ 2 ^ 63)
-    magnitude_above = rw (to_z-of_z f) (refl, abs_small z f)
+test_is : (z : ℤ) → SFits w64 z → (t : Bool) → lt_z (rd z) (pos 0) ≡ t → lt_z z (pos 0) ≡ t
+test_is z f t e = rw (to_z-of_z f) at e
 
 -- ---- the texts of numbers and delays
 
@@ -105,7 +57,8 @@ months_above (pos n) e = refl
 months_above (negsuc n) e = absurd (true≢false e)
 
 abs_some : (z : ℤ) → lt_z z (pos 0) ≡ true → 1 ≤ nat_abs z
-abs_some z e = omega (arith, abs_below z e)
+abs_some (pos n) e = absurd (not_below n e)
+abs_some (negsuc n) e = omega arith
 
 -- the same of what a local reads as, with m its distance from zero
 module _ (z : ℤ) (f : SFits w64 z) (m : ℕ) (q : m ≡ nat_abs z) where

@@ -79,13 +79,12 @@ last_run k digits h = let e : 8 - k ≡ 0 = omega arith in rw e
 
 pub record Summing (digits sum left k : ℕ) : Type 0 where
   pub all : length (settings_text digits) ≡ sum + length (run (8 - k) k left)
-  pub most : k ≤ 8
 
 pub summing_starts : (digits : ℕ) → Summing digits 0 digits 0
-summing_starts digits = record { all = omega arith; most = omega arith }
+summing_starts digits = record { all = omega arith }
 
-pub summing_on : (digits sum left k : ℕ) → Summing digits sum left k → k < 8 → Summing digits (sum + 3 * (left % 32)) (left / 32) (k + 1)
-summing_on digits sum left k s h = record {
+pub summing_on : {digits sum left k : ℕ} → Summing digits sum left k → k < 8 → Summing digits (sum + 3 * (left % 32)) (left / 32) (k + 1)
+summing_on {digits} {sum} {left} {k} s h = record {
   all =
       omega (
         arith,
@@ -94,14 +93,13 @@ summing_on digits sum left k s h = record {
         length-append (copies (left % 32) k) (run (8 - (k + 1)) (k + 1) (left / 32)),
         copies_length (left % 32) k,
       );
-  most = omega arith;
 }
 
-pub summing_ends : (digits sum left k : ℕ) → Summing digits sum left k → 8 ≤ k → sum ≡ length (settings_text digits)
-summing_ends digits sum left k s h = omega (arith, s.all, ap length (last_run k left h))
+pub summing_ends : {digits sum left k : ℕ} → Summing digits sum left k → 8 ≤ k → sum ≡ length (settings_text digits)
+summing_ends {digits} {sum} {left} {k} s h = omega (arith, s.all, ap length (last_run k left h))
 
-pub sum_most : (digits sum left k : ℕ) → Summing digits sum left k → sum ≤ 744
-sum_most digits sum left k s = omega (arith, s.all, settings_most digits)
+pub sum_most : {digits sum left k : ℕ} → Summing digits sum left k → sum ≤ 744
+sum_most {digits} s = omega (arith, s.all, settings_most digits)
 
 pub no_settings : (digits : ℕ) → digits ≡ 0 → settings_text digits ≡ []
 no_settings digits e = rw e (run_zero 8 0)
@@ -112,12 +110,11 @@ pub record Settling (digits : ℕ) (old out : List ℕ) (at place left k : ℕ) 
   pub done : List ℕ
   pub put : Put old out at place done
   pub all : settings_text digits ≡ done ++ run (8 - k) k left
-  pub most : k ≤ 8
 
 pub settling_starts : (digits : ℕ) (out : List ℕ) (at : ℕ) → Settling digits out out at at digits 0
-settling_starts digits out at = record { done = []; put = none; all = refl; most = omega arith }
+settling_starts digits out at = record { done = []; put = none; all = refl }
 
-module _ (digits : ℕ) (old out : List ℕ) (at place left k : ℕ) (s : Settling digits old out at place left k) where
+module _ {digits : ℕ} {old out : List ℕ} {at place left k : ℕ} (s : Settling digits old out at place left k) where
   module _ (h : k < 8) where
     split : settings_text digits ≡ s.done ++ (copies (left % 32) k ++ run (8 - (k + 1)) (k + 1) (left / 32))
     split = s.all ∙ ap (λ (t : List ℕ). s.done ++ t) (next_run k left h)
@@ -128,12 +125,11 @@ module _ (digits : ℕ) (old out : List ℕ) (at place left k : ℕ) (s : Settli
         let p : place + length (copies (left % 32) k ++ run (8 - (k + 1)) (k + 1) (left / 32)) ≤ length out = room_next _ q s.put in
         omega (arith, room_first place (length out) (copies (left % 32) k) (run (8 - (k + 1)) (k + 1) (left / 32)) p, copies_length (left % 32) k)
 
-    pub settling_on : (new : List ℕ) (next : ℕ) → Put out new place next (copies (left % 32) k) → Settling digits old new at next (left / 32) (k + 1)
-    settling_on new next p = record {
+    pub settling_on : {new : List ℕ} {next : ℕ} → Put out new place next (copies (left % 32) k) → Settling digits old new at next (left / 32) (k + 1)
+    settling_on p = record {
       done = s.done ++ copies (left % 32) k;
       put = then s.put p;
       all = split ∙ sym (append_assoc s.done (copies (left % 32) k) (run (8 - (k + 1)) (k + 1) (left / 32)));
-      most = omega arith;
     }
 
   pub settling_ends : 8 ≤ k → Put old out at place (settings_text digits)
@@ -141,21 +137,14 @@ module _ (digits : ℕ) (old out : List ℕ) (at place left k : ℕ) (s : Settli
 
 -- ---- writing copies
 
-pub record Copying (k : ℕ) (old out : List ℕ) (at place i n : ℕ) : Type 0 where
+pub record Copying (k : ℕ) (old out : List ℕ) (at place i : ℕ) : Type 0 where
   pub put : Put old out at place (copies i k)
-  pub most : i ≤ n
+  pub end : place ≡ at + 3 * i
 
-pub copying_starts : (k : ℕ) (out : List ℕ) (at n : ℕ) → Copying k out out at at 0 n
-copying_starts k out at n = record { put = said (sym (no_copies k)) none; most = omega arith }
+pub copying_starts : (k : ℕ) (out : List ℕ) (at : ℕ) → Copying k out out at at 0
+copying_starts k out at = record { put = said (sym (no_copies k)) none; end = omega arith }
 
-module _ (k : ℕ) (old out : List ℕ) (at place i n : ℕ) (s : Copying k old out at place i n) where
-  pub copying_room : at + 3 * n ≤ length old → i < n → place + 3 ≤ length out
-  copying_room r h = omega (arith, s.put.ends, kept s.put, copies_length i k)
-
-  pub copying_on : i < n → Copying k old (set (set (set out place 43) (place + 1) 80) (place + 2) (48 + k)) at (place + 3) (i + 1) n
-  copying_on h =
-      let e : i + 1 ≡ suc i = omega arith in
-      record { put = said (sym (rw e (copies_more i k))) (then s.put (three out place 43 80 (48 + k))); most = omega arith }
-
-  pub copying_ends : n ≤ i → Put old out at place (copies n k)
-  copying_ends h = let e : i ≡ n = omega (arith, s.most) in rw e at s.put
+pub copying_on : {k : ℕ} {old out : List ℕ} {at place i : ℕ} → Copying k old out at place i → Copying k old (set (set (set out place 43) (place + 1) 80) (place + 2) (48 + k)) at (place + 3) (i + 1)
+copying_on {k} {old} {out} {at} {place} {i} s =
+    let e : i + 1 ≡ suc i = omega arith in
+    record { put = said (sym (rw e (copies_more i k))) (then s.put (three out place 43 80 (48 + k))); end = omega (arith, s.end) }

@@ -74,25 +74,23 @@ behind_more i nodes =
     ap (behind 44) (rows_split i 1 nodes) ∙ behind_append 44 (fields_of_rows i nodes) (fields_of_rows 1 (drop (5 * i) nodes))
     ∙ ap (λ (t : List ℕ). behind 44 (fields_of_rows i nodes) ++ t) (behind_rows 0 (drop (5 * i) nodes) ∙ append-nil (44 ∷ row_text (drop (5 * i) nodes)))
 
-pub record Counted (nodes : List ℤ) (count sum i : ℕ) : Type 0 where
+pub record Counted (nodes : List ℤ) (sum i : ℕ) : Type 0 where
   pub is : sum ≡ length (behind 44 (fields_of_rows i nodes))
-  pub most : i ≤ count
   pub small : sum ≤ 901 * i
 
-pub counted_none : (nodes : List ℤ) (count : ℕ) → Counted nodes count 0 0
+pub counted_none : (nodes : List ℤ) → Counted nodes 0 0
 unfolding fields_of_rows behind
-counted_none nodes count = record { is = refl; most = omega arith; small = omega arith }
+counted_none nodes = record { is = refl; small = omega arith }
 
-pub counted_more : (nodes : List ℤ) (count sum i r : ℕ) → Counted nodes count sum i → i < count → r ≡ length (row_text (drop (5 * i) nodes)) → r ≤ 900 → Counted nodes count (sum + 1 + r) (i + 1)
-counted_more nodes count sum i r s h e m = record {
+pub counted_more : {nodes : List ℤ} {sum i r : ℕ} → Counted nodes sum i → r ≡ length (row_text (drop (5 * i) nodes)) → r ≤ 900 → Counted nodes (sum + (1 + r)) (i + 1)
+counted_more {nodes} {sum} {i} s e m = record {
   is = omega (arith, s.is, ap length (behind_more i nodes), length-append (behind 44 (fields_of_rows i nodes)) (44 ∷ row_text (drop (5 * i) nodes)));
-  most = omega arith;
   small = omega (arith, s.small);
 }
 
-pub counted_all : (nodes : List ℤ) (count sum i : ℕ) → Counted nodes count sum i → count ≤ i → (count ≡ 0 → ⊥) → sum ≡ 1 + length (written count nodes)
-counted_all nodes zero sum i s h n = absurd (n refl)
-counted_all nodes (suc n) sum i s h _ = let e : i ≡ suc n = omega (arith, s.most) in omega (arith, rw e at s.is, ap length (written_behind n nodes))
+pub counted_all : {nodes : List ℤ} {sum i : ℕ} (count : ℕ) → Counted nodes sum i → i ≡ count → (count ≡ 0 → ⊥) → sum ≡ 1 + length (written count nodes)
+counted_all zero s e n = absurd (n refl)
+counted_all {nodes} (suc n) s e _ = omega (arith, rw e at s.is, ap length (written_behind n nodes))
 
 -- ---- writing
 
@@ -118,21 +116,20 @@ module _ (nodes : List ℤ) (count i : ℕ) {old out : List ℕ} {place : ℕ} (
   pub row_put : {new : List ℕ} {end : ℕ} → Put out new place end (row_text (drop (5 * i) nodes)) → Put old new 0 end (written (i + 1) nodes)
   row_put r = said (sym (text_next i nodes)) (then p r)
 
--- the comma behind row i
-module _ (nodes : List ℤ) (count i : ℕ) {old out : List ℕ} {place : ℕ} (h : i + 1 ≤ count) (n : i + 1 ≡ count → ⊥) (room : length (written count nodes) ≤ length old) (p : Put old out 0 place (written (i + 1) nodes)) where
-  comma : comma_at (i + 1) ≡ 44 ∷ []
-  comma = let e : i + 1 ≡ suc i = omega arith in rw e
+-- the comma in front of row i
+module _ (nodes : List ℤ) (i : ℕ) {old out : List ℕ} {place : ℕ} (p : Put old out 0 place (written i nodes)) where
+  comma : 0 < i → comma_at i ≡ 44 ∷ []
+  comma h = let e : i ≡ suc (i - 1) = omega arith in rw e
 
-  pub comma_room : place < length out
-  comma_room =
-      let l : i + 1 < count = omega (arith, n) in
-      omega (arith, text_longer (i + 1) count nodes l, ap length (text_next (i + 1) nodes), length-append (written (i + 1) nodes ++ comma_at (i + 1)) (row_text (drop (5 * (i + 1)) nodes)), length-append (written (i + 1) nodes) (comma_at (i + 1)), ap length comma, p.ends, kept p)
+  pub comma_room : 0 < i → (count : ℕ) → i < count → length (written count nodes) ≤ length old → place < length out
+  comma_room h count l room =
+      omega (arith, text_longer i count nodes l, ap length (text_next i nodes), length-append (written i nodes ++ comma_at i) (row_text (drop (5 * i) nodes)), length-append (written i nodes) (comma_at i), ap length (comma h), p.ends, kept p)
 
-  pub comma_put : Put old (set out place 44) 0 (place + 1) (written (i + 1) nodes ++ comma_at (i + 1))
-  comma_put = then p (said (sym comma) (one out place 44))
+  pub comma_put : 0 < i → Put old (set out place 44) 0 (place + 1) (written i nodes ++ comma_at i)
+  comma_put h = then p (said (sym (comma h)) (one out place 44))
 
-pub text_starts : (nodes : List ℤ) {out : List ℕ} → Put out out 0 0 (written 0 nodes ++ comma_at 0)
-text_starts nodes = said (sym (ap (λ (t : List ℕ). t ++ []) (text_none 0 nodes refl))) none
+  pub comma_none : i ≤ 0 → Put old out 0 place (written i nodes ++ comma_at i)
+  comma_none h = let e : i ≡ 0 = omega arith in said (sym (append-nil (written i nodes)) ∙ ap (λ (t : List ℕ). written i nodes ++ t) (let n : [] ≡ comma_at i = rw e in n)) p
 
-pub text_ends : (nodes : List ℤ) (count i : ℕ) {old out : List ℕ} {place : ℕ} → i ≡ count → Put old out 0 place (written i nodes) → Put old out 0 place (written count nodes)
-text_ends nodes count i e p = rw e at p
+pub text_starts : (nodes : List ℤ) {out : List ℕ} → Put out out 0 0 (written 0 nodes)
+text_starts nodes = said (sym (text_none 0 nodes refl)) none

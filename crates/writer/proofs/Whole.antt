@@ -10,7 +10,7 @@ use Rattle.language.specs.Answer.{got}
 use Rattle.language.specs.Calls.{Outcome, Wrote, into_buffer}
 use Rattle.writer.specs.Answers.{written_answer}
 use Rattle.writer.specs.Put.{Put}
-use Rattle.writer.specs.declared.Written.TheVariants.{Bytes, NoRoom}
+use Rattle.std.specs.Prelude.{Err, Ok}
 
 in-front : (text buffer : List ℕ) → length text ≤ length buffer → sets buffer 0 text ≡ text ++ drop (length text) buffer
 in-front text buffer h =
@@ -22,11 +22,11 @@ module _ (text buffer : List ℕ) (need : ℕ) (n : need ≡ length text) where
   abbrev pub outcome : Outcome (Wrote Unit)
   outcome = into_buffer buffer (got (record { value = tt; text = text }))
 
-  pub no_room : length buffer < need → (buffer ≡ outcome.buffer) × (written_answer NoRoom ≡ outcome.answer)
+  pub no_room : length buffer < need → (buffer ≡ outcome.buffer) × (written_answer (Err _) ≡ outcome.answer)
   unfolding written_answer into_buffer
   no_room h = let e = lt-leb (length text) (length buffer) (omega arith) in (rw e, rw e)
 
-  pub whole : need ≤ length buffer → (out : List ℕ) (end : ℕ) → Put buffer out 0 end text → (out ≡ outcome.buffer) × (written_answer (Bytes end) ≡ outcome.answer)
+  pub whole : need ≤ length buffer → (out : List ℕ) (end : ℕ) → Put buffer out 0 end text → (out ≡ outcome.buffer) × (written_answer (Ok end) ≡ outcome.answer)
   unfolding written_answer into_buffer
   whole h out end p =
       let r : length text ≤ length buffer = omega arith in

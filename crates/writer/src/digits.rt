@@ -10,8 +10,7 @@ pub fn magnitude(nodes: &[i64], k: usize) -> u64
     requires { k < length nodes.now }
     ensures { (result ≡ nat_abs (slot nodes.now k)) × (result ≤ 2 ^ 63) }
 {
-    let z = nodes[k];
-    if z < 0 { (-1 - z) as u64 + 1 } else { z as u64 }
+    nodes[k].unsigned_abs()
 }
 
 // How many digits a number below 10,000 has.

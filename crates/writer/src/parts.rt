@@ -53,11 +53,9 @@ pub fn settings_length(digits: u64) -> usize
     }
     let mut sum: usize = 0;
     let mut left = digits;
-    let mut k: usize = 0;
-    while k < 8 {
-        sum = sum + 3 * (left % 32) as usize;
-        left = left / 32;
-        k += 1;
+    for _ in 0u8..8 {
+        sum += 3 * (left % 32) as usize;
+        left /= 32;
     }
     sum
 }
@@ -68,13 +66,11 @@ fn put_setting(k: u8, n: usize, out: &mut [u8], at: usize) -> usize
     ensures { Put out.old out.new at result (behind 43 (setting_fields (replicate n k))) }
 {
     let mut place = at;
-    let mut i: usize = 0;
-    while i < n {
+    for _ in 0..n {
         out[place] = b'+';
         out[place + 1] = b'P';
-        out[place + 2] = 48 + k;
-        place = place + 3;
-        i += 1;
+        out[place + 2] = b'0' + k;
+        place += 3;
     }
     place
 }
@@ -89,11 +85,9 @@ pub fn put_settings(digits: u64, out: &mut [u8], at: usize) -> usize
     }
     let mut place = at;
     let mut left = digits;
-    let mut k: u8 = 0;
-    while k < 8 {
+    for k in 0..8 {
         place = put_setting(k, (left % 32) as usize, out, place);
-        left = left / 32;
-        k += 1;
+        left /= 32;
     }
     place
 }

@@ -8,5 +8,5 @@ use Rattle.backwards.proofs.amount_in.Goals as goal
 pub overflow_add-from : goal.overflow_add-from
 overflow_add-from c = record { fits = omega (arith, (amount_inside _ _ _ c.requires.1).0) }
 
-pub returns-in-Value : goal.returns-in-Value
-returns-in-Value c = subst (BackIs _) c.in-Value.is c.worked_back-back.ensures
+pub returns-in-Some : goal.returns-in-Some
+returns-in-Some c = subst (BackIs _) c.in-Some.is c.worked_back.ensures

@@ -2,25 +2,18 @@ use Prim.Native.Nat.{◌-◌}
 use Rattle.backwards.proofs.Backwards as plain
 use Rattle.backwards.proofs.Waiting as loop
 use Rattle.nodes.specs.Letters.{letter_of_amount}
-use Rattle.nodes.specs.Table.{nat_of}
 use borrow.Author.Rules.{rules}
 use lib.IntN.{pos}
 use lib.ListN.{get_or}
 use mathlib.Core.Path.{◌∙◌, refl}
 use mir.Facts.{to_z-of_z}
 use mir.Syntax.{w64}
-use mir.Val.{SFits, to_z}
+use mir.Val.{SFits}
 use native.Mathlib.Omega.{arith}
 use Rattle.backwards.proofs.worked_back.Goals as goal
 
 pub loop-at-init : goal.loop-at-init
 loop-at-init c = plain.begun _ _ c.requires.2 c.requires.1 refl
-
-pub overflow_sub-at : goal.overflow_sub-at
-overflow_sub-at c = omega arith
-
-pub slot-x-requires : goal.slot-x-requires
-slot-x-requires c = ((omega (arith, c.requires.3, c.loop-at.invariant.high), omega (arith, c.requires.4, c.loop-at.invariant.high)), omega arith)
 
 pub overflow_sub-depth : goal.overflow_sub-depth
 unfolding letter_of_amount
@@ -30,12 +23,6 @@ overflow_sub-depth c =
     let j = loop.sum_joins c.loop-at.invariant c.loop-at-test.true e in
     omega (arith, j.some)
 
-pub offset_bounds-stack-depth : goal.offset_bounds-stack-depth
-offset_bounds-stack-depth c = record { fits = omega (arith, c.loop-at.invariant.deep) }
-
-pub bounds-stack-depth : goal.bounds-stack-depth
-bounds-stack-depth c = omega (arith, c.loop-at.invariant.deep)
-
 pub plus-top-requires : goal.plus-top-requires
 unfolding letter_of_amount
 plus-top-requires c =
@@ -44,9 +31,6 @@ plus-top-requires c =
     let j = loop.sum_joins c.loop-at.invariant c.loop-at-test.true e in
     let g : SFits w64 (get_or c.loop-at.stack (c.loop-at.depth - 1) (pos 0)) = search rules in
     rw (to_z-of_z g) j.then.0
-
-pub loop-at-smaller-in-65 : goal.loop-at-smaller-in-65
-loop-at-smaller-in-65 c = omega arith
 
 pub loop-at-preserved-in-65 : goal.loop-at-preserved-in-65
 unfolding letter_of_amount
@@ -66,12 +50,6 @@ overflow_sub-depth-in-75 c =
     let j = loop.product_joins c.loop-at.invariant c.loop-at-test.true e in
     omega (arith, j.some)
 
-pub offset_bounds-stack-depth-in-75 : goal.offset_bounds-stack-depth-in-75
-offset_bounds-stack-depth-in-75 c = record { fits = omega (arith, c.loop-at.invariant.deep) }
-
-pub bounds-stack-depth-in-75 : goal.bounds-stack-depth-in-75
-bounds-stack-depth-in-75 c = omega (arith, c.loop-at.invariant.deep)
-
 pub times-top-requires : goal.times-top-requires
 unfolding letter_of_amount
 times-top-requires c =
@@ -80,9 +58,6 @@ times-top-requires c =
     let j = loop.product_joins c.loop-at.invariant c.loop-at-test.true e in
     let g : SFits w64 (get_or c.loop-at.stack (c.loop-at.depth - 1) (pos 0)) = search rules in
     rw (to_z-of_z g) j.then.0
-
-pub loop-at-smaller-in-75 : goal.loop-at-smaller-in-75
-loop-at-smaller-in-75 c = omega arith
 
 pub loop-at-preserved-in-75 : goal.loop-at-preserved-in-75
 unfolding letter_of_amount
@@ -94,27 +69,6 @@ loop-at-preserved-in-75 c =
     let s : SFits w64 c.times-top.result.0 = search rules in
     loop.joined_row c.loop-at.invariant c.loop-at-test.true (to_z-of_z s ∙ (rw (to_z-of_z g) at c.times-top.ensures)) j.then.1
 
-pub returns-in_default : goal.returns-in_default
-returns-in_default c = tt
-
-pub returns-then-depth-eq32 : goal.returns-then-depth-eq32
-returns-then-depth-eq32 c = tt
-
-pub offset_bounds-stack-depth-in-78 : goal.offset_bounds-stack-depth-in-78
-offset_bounds-stack-depth-in-78 c = record { fits = omega (arith, c.loop-at.invariant.deep) }
-
-pub bounds-stack-depth-in-78 : goal.bounds-stack-depth-in-78
-bounds-stack-depth-in-78 c = omega (arith, c.loop-at.invariant.deep)
-
-pub overflow_add-depth : goal.overflow_add-depth
-overflow_add-depth c = record { fits = omega (arith, c.loop-at.invariant.deep) }
-
-pub number-top-requires : goal.number-top-requires
-number-top-requires c = (omega (arith, c.requires.3, c.loop-at.invariant.high), omega (arith, c.requires.4, c.loop-at.invariant.high))
-
-pub loop-at-smaller-in-78 : goal.loop-at-smaller-in-78
-loop-at-smaller-in-78 c = omega arith
-
 pub loop-at-preserved-in-78 : goal.loop-at-preserved-in-78
 unfolding letter_of_amount
 loop-at-preserved-in-78 c =
@@ -123,27 +77,12 @@ loop-at-preserved-in-78 c =
     let s : SFits w64 c.number-top.result.0 = search rules in
     loop.number_row c.loop-at.invariant c.loop-at-test.true e (omega (arith, c.loop-at.invariant.deep)) (to_z-of_z s ∙ c.number-top.ensures)
 
-pub returns-then-depth-eq32-2 : goal.returns-then-depth-eq32-2
-returns-then-depth-eq32-2 c = tt
-
-pub offset_bounds-stack-depth-in-79 : goal.offset_bounds-stack-depth-in-79
-offset_bounds-stack-depth-in-79 c = record { fits = omega (arith, c.loop-at.invariant.deep) }
-
-pub bounds-stack-depth-in-79 : goal.bounds-stack-depth-in-79
-bounds-stack-depth-in-79 c = omega (arith, c.loop-at.invariant.deep)
-
-pub overflow_add-depth-in-79 : goal.overflow_add-depth-in-79
-overflow_add-depth-in-79 c = record { fits = omega (arith, c.loop-at.invariant.deep) }
-
 pub reading-top-requires : goal.reading-top-requires
 unfolding letter_of_amount
 reading-top-requires c =
     let f : SFits w64 c.slot-x.result = search rules in
     let e = loop.letter_at f c.slot-x.ensures c.in-79.in-79-own.keys2 in
     ((omega (arith, c.requires.3, c.loop-at.invariant.high), omega (arith, c.requires.4, c.loop-at.invariant.high)), c.requires.0, (loop.index_reads c.loop-at.invariant c.loop-at-test.true e).0)
-
-pub loop-at-smaller-in-79 : goal.loop-at-smaller-in-79
-loop-at-smaller-in-79 c = omega arith
 
 pub loop-at-preserved-in-79 : goal.loop-at-preserved-in-79
 unfolding letter_of_amount
@@ -153,9 +92,6 @@ loop-at-preserved-in-79 c =
     let s : SFits w64 c.reading-top.result.0 = search rules in
     loop.pushed_row c.loop-at.invariant c.loop-at-test.true (omega (arith, c.loop-at.invariant.deep)) (to_z-of_z s ∙ c.reading-top.ensures) (loop.index_reads c.loop-at.invariant c.loop-at-test.true e).1
 
-pub returns-in_default-x : goal.returns-in_default-x
-returns-in_default-x c = tt
-
 pub overflow_sub-depth-in-85 : goal.overflow_sub-depth-in-85
 unfolding letter_of_amount
 overflow_sub-depth-in-85 c =
@@ -163,12 +99,6 @@ overflow_sub-depth-in-85 c =
     let e = loop.letter_at f c.slot-x.ensures c.in-85.in-85-own.keys1 in
     let j = loop.difference_joins c.loop-at.invariant c.loop-at-test.true e in
     omega (arith, j.some)
-
-pub offset_bounds-stack-depth-in-85 : goal.offset_bounds-stack-depth-in-85
-offset_bounds-stack-depth-in-85 c = record { fits = omega (arith, c.loop-at.invariant.deep) }
-
-pub bounds-stack-depth-in-85 : goal.bounds-stack-depth-in-85
-bounds-stack-depth-in-85 c = omega (arith, c.loop-at.invariant.deep)
 
 pub minus-top-requires : goal.minus-top-requires
 unfolding letter_of_amount
@@ -178,9 +108,6 @@ minus-top-requires c =
     let j = loop.difference_joins c.loop-at.invariant c.loop-at-test.true e in
     let g : SFits w64 (get_or c.loop-at.stack (c.loop-at.depth - 1) (pos 0)) = search rules in
     rw (to_z-of_z g) j.then.0
-
-pub loop-at-smaller-in-85 : goal.loop-at-smaller-in-85
-loop-at-smaller-in-85 c = omega arith
 
 pub loop-at-preserved-in-85 : goal.loop-at-preserved-in-85
 unfolding letter_of_amount
@@ -199,9 +126,6 @@ over-top-requires c =
     let e = loop.letter_at f c.slot-x.ensures c.in-81.in-81-own.keys2 in
     ((omega (arith, c.requires.3, c.loop-at.invariant.high), omega (arith, c.requires.4, c.loop-at.invariant.high)), loop.quotient_divides c.loop-at.invariant c.loop-at-test.true e)
 
-pub loop-at-smaller : goal.loop-at-smaller
-loop-at-smaller c = omega arith
-
 pub loop-at-preserved : goal.loop-at-preserved
 unfolding letter_of_amount
 loop-at-preserved c =
@@ -209,9 +133,6 @@ loop-at-preserved c =
     let e = loop.letter_at f c.slot-x.ensures c.in-81.in-81-own.keys2 in
     let s : SFits w64 c.over-top.result.0 = search rules in
     loop.quotient_row c.loop-at.invariant c.loop-at-test.true e (to_z-of_z s ∙ c.over-top.ensures)
-
-pub returns-in_default-x-2 : goal.returns-in_default-x-2
-returns-in_default-x-2 c = tt
 
 pub returns : goal.returns
 returns c = plain.same_value (loop.all_passed c.loop-at.invariant c.loop-at-test.false)

@@ -4,7 +4,4 @@ use Rattle.checked_back.proofs.tried_back.Given as goal
 
 abbrev pub invariant-loop-at : goal.invariant-loop-at
 invariant-loop-at l =
-    checked.Going l.h.0 l.f.0 l.bounds.now l.values.now (nat_of l.waited.0) l.nodes.now l.from l.to l.stack l.depth l.top l.at
-
-abbrev pub decreases-loop-at : goal.decreases-loop-at
-decreases-loop-at l = l.at
+    checked.Going l.lent.span.h l.lent.span.f l.lent.bounds.now l.lent.values.now (nat_of l.waited.0) l.lent.nodes.now l.from l.to l.stack l.depth l.top l.at

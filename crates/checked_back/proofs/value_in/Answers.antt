@@ -13,11 +13,11 @@ use native.Mathlib.Omega.{arith}
 use Rattle.checked_back.proofs.value_in.Goals as goal
 
 pub overflow_add-from : goal.overflow_add-from
-overflow_add-from c = record { fits = omega (arith, (amount_inside _ _ _ c.requires.2).0) }
+overflow_add-from c = record { fits = omega (arith, (amount_inside _ _ _ c.requires.1).0) }
 
-pub returns-in-Value : goal.returns-in-Value
-returns-in-Value c =
+pub returns-in-Some : goal.returns-in-Some
+returns-in-Some c =
     let a = c.args in
-    let s : SFits w64 c.in-Value.p.0 = search rules in
-    let e = subst (BackIn _) c.in-Value.is c.tried_back-back.ensures in
-    ap valued_in (to_z-of_z s) ∙ checked.stands a.h.0 a.f.0 a.bounds.now.now a.values.now.now (nat_of a.waited.0) (amount_at offset_of 512 a.nodes.now.now a.from) e
+    let s : SFits w64 c.in-Some.p.0 = search rules in
+    let e = subst (BackIn _) c.in-Some.is c.tried_back.ensures in
+    ap valued_in (to_z-of_z s) ∙ checked.stands a.lent.now.span.h a.lent.now.span.f a.lent.now.bounds.now a.lent.now.values.now (nat_of a.waited.0) (amount_at offset_of 512 a.lent.now.nodes.now a.from) e

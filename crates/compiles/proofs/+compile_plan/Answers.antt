@@ -1,5 +1,4 @@
-use Prim.Native.Nat.{◌+◌, ◌<◌, ◌≤◌, ℕ}
-use borrow.Author.Rules.{rules}
+use Prim.Native.Nat.{◌+◌, ◌≤◌}
 use native.Mathlib.Omega.{arith}
 use Rattle.compiles.proofs.CompileArms as arms
 use Rattle.compiles.proofs.CompileParts as parts
@@ -34,8 +33,8 @@ overflow_add-at t c =
     let y = c.requires.0 in
     record { fits = omega (arith, (parts.inside y).0, (parts.inside y).1) }
 
-pub compile_rows-b-requires : goal.compile_rows-b-requires
-compile_rows-b-requires t c =
+pub copy_rows-b-requires : goal.copy_rows-b-requires
+copy_rows-b-requires t c =
     let y = c.requires.0 in
     let i = parts.by_letter y c.plan_kind-letter.ensures c.in-Scale.is in
     let o = parts.scale_order y i c.link-second.ensures in
@@ -54,7 +53,7 @@ compile_plan-requires t c =
     let u = c.put_letter-a.ensures in
     let b : c.put_letter-a.result ≤ c.args.at + 1 = omega (arith, c.requires.1, u.ends) in
     let e = c.link-second.ensures in
-    let v = c.compile_rows-b.ensures in
+    let v = c.copy_rows-b.ensures in
     (omega (arith, parts.some_left y), (parts.scale_next y i e b u v, parts.scaled_before y i e b u v))
 
 pub delay-d-requires : goal.delay-d-requires
@@ -155,8 +154,8 @@ overflow_add-at-in-Within t c =
     let y = c.requires.0 in
     record { fits = omega (arith, (parts.inside y).0, (parts.inside y).1) }
 
-pub compile_rows-b-requires-in-Within : goal.compile_rows-b-requires-in-Within
-compile_rows-b-requires-in-Within t c =
+pub copy_rows-b-requires-in-Within : goal.copy_rows-b-requires-in-Within
+copy_rows-b-requires-in-Within t c =
     let y = c.requires.0 in
     let i = parts.by_letter y c.plan_kind-letter.ensures c.in-Within.is in
     let o = parts.within_order y i c.link-second-in-Within.ensures c.link-third.ensures in
@@ -176,7 +175,7 @@ compile_plan-c-requires t c =
     let b : c.copy_row-a.result ≤ c.args.at + 1 = omega (arith, c.requires.1, u.ends) in
     let e = c.link-second-in-Within.ensures in
     let g = c.link-third.ensures in
-    let v = c.compile_rows-b-in-Within.ensures in
+    let v = c.copy_rows-b-in-Within.ensures in
     (omega (arith, parts.some_left y), (parts.held_next y i e g b u v, parts.tested_before y i e g b u v))
 
 pub overflow_sub-left-in-Within-2 : goal.overflow_sub-left-in-Within-2
@@ -192,7 +191,7 @@ compile_plan-requires-in-Within t c =
     let b : c.copy_row-a.result ≤ c.args.at + 1 = omega (arith, c.requires.1, u.ends) in
     let e = c.link-second-in-Within.ensures in
     let g = c.link-third.ensures in
-    let v = c.compile_rows-b-in-Within.ensures in
+    let v = c.copy_rows-b-in-Within.ensures in
     let w = c.compile_plan-c.ensures in
     let h : c.compile_plan-c.result ≤ c.link-third.result = omega (arith, parts.tested_before y i e g b u v, w.0) in
     (omega (arith, parts.some_left y), (parts.missed_next y i e g b u v h (w.1 (parts.held_next y i e g b u v)), h))
@@ -215,7 +214,7 @@ returns-in-Scale t c =
     let b : c.put_letter-a.result ≤ c.args.at + 1 = omega (arith, c.requires.1, u.ends) in
     let e = c.link-second.ensures in
     let o = parts.scale_order y i e in
-    let v = c.compile_rows-b.ensures in
+    let v = c.copy_rows-b.ensures in
     let w = c.compile_plan.ensures in
     (omega (arith, o.0, o.1, u.ends, v.counted, w.0), λ z. arms.scale_arm z e b (parts.by_letter z c.plan_kind-letter.ensures c.in-Scale.is) u v w.1)
 
@@ -244,7 +243,7 @@ returns-in-Within t c =
     let b : c.copy_row-a.result ≤ c.args.at + 1 = omega (arith, c.requires.1, u.ends) in
     let e = c.link-second-in-Within.ensures in
     let g = c.link-third.ensures in
-    let v = c.compile_rows-b-in-Within.ensures in
+    let v = c.copy_rows-b-in-Within.ensures in
     let w = c.compile_plan-c.ensures in
     let h : c.compile_plan-c.result ≤ c.link-third.result = omega (arith, parts.tested_before y i e g b u v, w.0) in
     let o = parts.within_order y i e g in

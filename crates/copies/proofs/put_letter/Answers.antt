@@ -1,7 +1,6 @@
 use mir.Facts.{to_z-of_z}
 use mathlib.Core.Path.{refl}
 use Rattle.copies.proofs.Appending.{appended_as, row_of_lem}
-use borrow.Author.Rules.{rules}
 use Rattle.copies.proofs.put_letter.Goals as goal
 
 pub returns : goal.returns

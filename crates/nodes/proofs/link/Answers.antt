@@ -16,7 +16,7 @@ overflow_cast-result c =
 pub overflow_add-result : goal.overflow_add-result
 overflow_add-result c =
     let f : SFits w64 c.slot-x.result = search rules in
-    omega (arith, index_reads c.slot-x.result (slot_at c.args.nodes.now.now c.args.at c.args.k) f c.slot-x.ensures c.requires.2, nat_of_below (slot_at c.args.nodes.now.now c.args.at c.args.k) (subst (SFits w64) c.slot-x.ensures f))
+    omega (arith, index_reads c.slot-x.result (slot_at c.args.nodes.now c.args.at c.args.k) f c.slot-x.ensures c.requires.2, nat_of_below (slot_at c.args.nodes.now c.args.at c.args.k) (subst (SFits w64) c.slot-x.ensures f))
 
 pub returns : goal.returns
 unfolding link_at

@@ -1,10 +1,9 @@
-use Prim.Native.Nat.{◌*◌, ◌+◌, ◌-◌, suc}
+use Prim.Native.Nat.{◌*◌, ◌+◌, suc}
 use lib.ListN.{length-set}
 use mathlib.Core.Path.{◌≡◌}
 use mir.Syntax.{w64}
 use mir.ValLaws.{to_z-of_z}
 use native.Mathlib.Omega.{arith}
-use borrow.Author.Rules.{rules}
 use Rattle.nodes.proofs.put_row.Goals as goal
 
 pub bounds-nodes-i-2 : goal.bounds-nodes-i-2

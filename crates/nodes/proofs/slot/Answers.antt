@@ -11,5 +11,5 @@ use Rattle.nodes.proofs.slot.Goals as goal
 pub returns : goal.returns
 unfolding slot_at
 returns c =
-    let f : SFits w64 (get_or c.args.nodes.now.now (c.args.at * 5 + c.args.k) (pos 0)) = search rules in
+    let f : SFits w64 (get_or c.args.nodes.now (c.args.at * 5 + c.args.k) (pos 0)) = search rules in
     to_z-of_z f

@@ -1,4 +1,3 @@
-use borrow.Author.Rules.{rules}
 use mathlib.Core.Bool.{true≢false}
 use mathlib.Core.Path.{◌∙◌, sym}
 use Rattle.payoff.proofs.may_use.Goals as goal

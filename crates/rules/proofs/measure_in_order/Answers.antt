@@ -12,22 +12,6 @@ use Rattle.nodes.specs.Table.{nat_of}
 use Rattle.rules.proofs.Measuring.{accepted, end_small, few_months, late, near_today, plain_fits, plain_read, seen_today, start_fits, start_small, too_great, too_long, unread}
 use Rattle.rules.proofs.measure_in_order.Goals as goal
 
-pub overflow_sub-span : goal.overflow_sub-span
-overflow_sub-span c =
-    start_fits c.args.today.0 c.args.span c.args.bounds.now c.requires.1
-
-pub nearer-low-requires : goal.nearer-low-requires
-nearer-low-requires c =
-    (start_small c.args.today.0 c.args.span c.args.bounds.now c.requires.1, few_months c.args.today.0 c.args.span c.args.bounds.now c.requires.1)
-
-pub nearer-high-requires : goal.nearer-high-requires
-nearer-high-requires c =
-    (end_small c.args.today.0 c.args.span c.args.bounds.now c.requires.1, few_months c.args.today.0 c.args.span c.args.bounds.now c.requires.1)
-
-pub measure_plan-m-requires : goal.measure_plan-m-requires
-measure_plan-m-requires c =
-    (c.requires.0, near_today c.args.today.0 c.args.span c.args.bounds.now c.requires.1 c.nearer-low.ensures c.nearer-high.ensures, c.requires.1.bounded)
-
 pub overflow_cast-length : goal.overflow_cast-length
 overflow_cast-length c =
     let k = c.measure_plan-m.ensures _ _ _ (seen_today c.args.today.0 c.args.span c.args.bounds.now c.requires.1 c.nearer-low.ensures c.nearer-high.ensures) in
@@ -49,47 +33,44 @@ returns-then-span-last c =
     let t = rw (to_z-of_z f, to_z-of_z g, c.later-last.ensures) at c.if-span-last.true in
     (too_long c.args.today.0 c.args.span c.args.bounds.now x c.requires.1 _ e t, tt)
 
-pub overflow_cast-result : goal.overflow_cast-result
-overflow_cast-result c = plain_fits (leb-true _ _ (sym c.is_within.ensures ∙ c.if-is_within.true))
-
-pub returns-then-is_within : goal.returns-then-is_within
-returns-then-is_within c =
+pub returns : goal.returns
+returns c =
     let k = c.measure_plan-m.ensures _ _ _ (seen_today c.args.today.0 c.args.span c.args.bounds.now c.requires.1 c.nearer-low.ensures c.nearer-high.ensures) in
     let x = plan_at nat_of 32 c.args.nodes.now 0 in
     let e = plain_read (omega (arith, k.length, length_bound c.requires.0)) ∙ ap pos k.length in
     let f : SFits w64 c.args.span.f = search rules in
     let g : SFits w64 c.later-last.result.0 = search rules in
     let t = rw (to_z-of_z f, to_z-of_z g, c.later-last.ensures) at c.if-span-last.false in
-    let w = sym c.is_within.ensures ∙ c.if-is_within.true in
-    accepted c.args.today.0 c.args.span c.args.bounds.now x c.requires.1 _ e t k.reads c.if-m.true k.known c.if-m-2.true k.magnitude w _ (plain_read (leb-true _ _ w))
+    let w = sym c.is_within.ensures ∙ c.if-not-is_within.false in
+    accepted c.args.today.0 c.args.span c.args.bounds.now x c.requires.1 _ e t k.reads c.if-not-reads.false k.known c.if-not-known.false k.magnitude w _ (plain_read (leb-true _ _ w))
 
-pub returns-else-is_within : goal.returns-else-is_within
-returns-else-is_within c =
+pub returns-then-not-is_within : goal.returns-then-not-is_within
+returns-then-not-is_within c =
     let k = c.measure_plan-m.ensures _ _ _ (seen_today c.args.today.0 c.args.span c.args.bounds.now c.requires.1 c.nearer-low.ensures c.nearer-high.ensures) in
     let x = plan_at nat_of 32 c.args.nodes.now 0 in
     let e = plain_read (omega (arith, k.length, length_bound c.requires.0)) ∙ ap pos k.length in
     let f : SFits w64 c.args.span.f = search rules in
     let g : SFits w64 c.later-last.result.0 = search rules in
     let t = rw (to_z-of_z f, to_z-of_z g, c.later-last.ensures) at c.if-span-last.false in
-    let w = sym c.is_within.ensures ∙ c.if-is_within.false in
-    (too_great c.args.today.0 c.args.span c.args.bounds.now x c.requires.1 (record { 0 = to_z w64 c.measure_plan-m.result.length }) e t k.reads c.if-m.true k.known c.if-m-2.true k.magnitude w, tt)
+    let w = sym c.is_within.ensures ∙ c.if-not-is_within.true in
+    (too_great c.args.today.0 c.args.span c.args.bounds.now x c.requires.1 (record { 0 = to_z w64 c.measure_plan-m.result.length }) e t k.reads c.if-not-reads.false k.known c.if-not-known.false k.magnitude w, tt)
 
-pub returns-else-m-2 : goal.returns-else-m-2
-returns-else-m-2 c =
+pub returns-then-not-known : goal.returns-then-not-known
+returns-then-not-known c =
     let k = c.measure_plan-m.ensures _ _ _ (seen_today c.args.today.0 c.args.span c.args.bounds.now c.requires.1 c.nearer-low.ensures c.nearer-high.ensures) in
     let x = plan_at nat_of 32 c.args.nodes.now 0 in
     let e = plain_read (omega (arith, k.length, length_bound c.requires.0)) ∙ ap pos k.length in
     let f : SFits w64 c.args.span.f = search rules in
     let g : SFits w64 c.later-last.result.0 = search rules in
     let t = rw (to_z-of_z f, to_z-of_z g, c.later-last.ensures) at c.if-span-last.false in
-    (late c.args.today.0 c.args.span c.args.bounds.now x c.requires.1 (record { 0 = to_z w64 c.measure_plan-m.result.length }) e t k.reads c.if-m.true k.known c.if-m-2.false, tt)
+    (late c.args.today.0 c.args.span c.args.bounds.now x c.requires.1 (record { 0 = to_z w64 c.measure_plan-m.result.length }) e t k.reads c.if-not-reads.false k.known c.if-not-known.true, tt)
 
-pub returns-else-m : goal.returns-else-m
-returns-else-m c =
+pub returns-then-not-reads : goal.returns-then-not-reads
+returns-then-not-reads c =
     let k = c.measure_plan-m.ensures _ _ _ (seen_today c.args.today.0 c.args.span c.args.bounds.now c.requires.1 c.nearer-low.ensures c.nearer-high.ensures) in
     let x = plan_at nat_of 32 c.args.nodes.now 0 in
     let e = plain_read (omega (arith, k.length, length_bound c.requires.0)) ∙ ap pos k.length in
     let f : SFits w64 c.args.span.f = search rules in
     let g : SFits w64 c.later-last.result.0 = search rules in
     let t = rw (to_z-of_z f, to_z-of_z g, c.later-last.ensures) at c.if-span-last.false in
-    (unread c.args.today.0 c.args.span c.args.bounds.now x c.requires.1 (record { 0 = to_z w64 c.measure_plan-m.result.length }) e t k.reads c.if-m.false, tt)
+    (unread c.args.today.0 c.args.span c.args.bounds.now x c.requires.1 (record { 0 = to_z w64 c.measure_plan-m.result.length }) e t k.reads c.if-not-reads.true, tt)

@@ -2,7 +2,6 @@ use Prim.Native.Nat.{◌%◌}
 use Rattle.nodes.specs.Found.{plan_at}
 use Rattle.nodes.specs.Table.{nat_of}
 use Rattle.rules.proofs.Measuring.{all_kept, end_small, few_months, few_today, high_today, near_today, plain_read, seen_today, start_fits, start_small}
-use borrow.Author.Rules.{rules}
 use borrow.Author.Tests.{leb-true}
 use mathlib.Core.Path.{◌∙◌, sym}
 use native.Mathlib.Omega.{arith}
@@ -24,7 +23,7 @@ pub quick_plan-found-requires : goal.quick_plan-found-requires
 quick_plan-found-requires c =
     let l = c.nearer-low.ensures in
     let h = c.nearer-high.ensures in
-    (c.requires.0, near_today c.args.today.0 c.args.span c.args.bounds.now c.requires.1 l h, c.requires.1.bounded, few_today c.args.today.0 c.args.span c.args.bounds.now c.requires.1 l h)
+    (c.requires.0, near_today c.args.today.0 c.args.span c.args.bounds.now c.requires.1 l h, few_today c.args.today.0 c.args.span c.args.bounds.now c.requires.1 l h)
 
 pub nearer-length-requires : goal.nearer-length-requires
 nearer-length-requires c =
@@ -37,6 +36,3 @@ returns-then-is_within c =
     let k = c.quick_plan-found.ensures.1 _ _ _ (seen_today c.args.today.0 c.args.span c.args.bounds.now c.requires.1 c.nearer-low.ensures h) w in
     let r = all_kept c.args.today.0 c.args.span c.args.bounds.now (plan_at nat_of 32 c.args.nodes.now 0) c.requires.1 h k _ c.nearer-length.ensures _ (plain_read w) in
     (r.0, r.1, c.quick_plan-found.ensures.2 w)
-
-pub returns : goal.returns
-returns c = tt

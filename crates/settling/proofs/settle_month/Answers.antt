@@ -1,13 +1,12 @@
 use Prim.Native.Nat.{◌+◌}
 use lib.IntN.{pos}
 use lib.ListN.{get_or}
-use mathlib.Core.Path.{subst}
+use mathlib.Core.Path.{subst, sym}
 use mir.Syntax.{w64}
 use mir.Val.{SFits, to_z}
 use native.Mathlib.Omega.{arith}
 use Rattle.settling.proofs.RowSettles as rows
 use Rattle.settling.specs.Sums.{SumIs}
-use Rattle.settling.specs.declared.sums.Summed.TheVariants as summed
 use Rattle.nodes.specs.Rows.{settings_in}
 use Rattle.nodes.proofs.Signed.{key}
 use Rattle.integers.proofs.Locals.{rd}
@@ -15,6 +14,9 @@ use lib.IntN.{◌+ℤ◌, nat_abs}
 use lib.ListN.{length-set}
 use borrow.Author.Rules.{rules}
 use Rattle.settling.proofs.settle_month.Goals as goal
+use Rattle.settling.specs.Settle.{MonthIs}
+use Rattle.integers.proofs.Passed.{handed_up}
+use Rattle.std.specs.Prelude.{Err, Ok}
 
 pub returns-then-digits-eq0 : goal.returns-then-digits-eq0
 returns-then-digits-eq0 c =
@@ -29,39 +31,39 @@ overflow_cast-digits c =
     let fd : SFits w64 (get_or a.nodes.now (a.at + 1) (pos 0)) = search rules in
     rows.digits_cast a.days.now c.requires.1 _ _ c.requires.2 fp fd
 
-pub overflow_cast-month : goal.overflow_cast-month
-overflow_cast-month c =
+pub overflow_cast-nodes : goal.overflow_cast-nodes
+overflow_cast-nodes c =
     let a = c.args in
     let fp : SFits w64 (get_or a.nodes.now a.at (pos 0)) = search rules in
     let fd : SFits w64 (get_or a.nodes.now (a.at + 1) (pos 0)) = search rules in
-    let h = subst (SumIs a.days.now (settings_in (nat_abs (rd (get_or a.nodes.now (a.at + 1) (pos 0)))))) c.in-Months.is c.month_sum-summed.ensures in
+    let h = subst (SumIs a.days.now (settings_in (nat_abs (rd (get_or a.nodes.now (a.at + 1) (pos 0)))))) c.in_ok-sum.was c.month_sum.ensures in
     rows.sum_fits a.days.now c.requires.1 _ _ c.requires.2 fp fd _ h
 
-pub overflow_add-month : goal.overflow_add-month
-overflow_add-month c =
+pub overflow_add-nodes : goal.overflow_add-nodes
+overflow_add-nodes c =
     let a = c.args in
     let fp : SFits w64 (get_or a.nodes.now a.at (pos 0)) = search rules in
     let fd : SFits w64 (get_or a.nodes.now (a.at + 1) (pos 0)) = search rules in
-    let h = subst (SumIs a.days.now (settings_in (nat_abs (rd (get_or a.nodes.now (a.at + 1) (pos 0)))))) c.in-Months.is c.month_sum-summed.ensures in
+    let h = subst (SumIs a.days.now (settings_in (nat_abs (rd (get_or a.nodes.now (a.at + 1) (pos 0)))))) c.in_ok-sum.was c.month_sum.ensures in
     rows.month_fits a.days.now c.requires.1 _ _ c.requires.2 fp fd _ h
 
 pub slice_set_of-nodes : goal.slice_set_of-nodes
 slice_set_of-nodes c =
     let a = c.args in
-    omega (arith, c.requires.0, length-set a.nodes.now a.at (rd (rd (get_or a.nodes.now a.at (pos 0)) +ℤ to_z w64 c.in-Months.n)))
+    omega (arith, c.requires.0, length-set a.nodes.now a.at (rd (rd (get_or a.nodes.now a.at (pos 0)) +ℤ to_z w64 c.in_ok-sum.sum)))
 
-pub returns-in-Months : goal.returns-in-Months
-returns-in-Months c =
+pub returns : goal.returns
+returns c =
     let a = c.args in
     let fp : SFits w64 (get_or a.nodes.now a.at (pos 0)) = search rules in
     let fd : SFits w64 (get_or a.nodes.now (a.at + 1) (pos 0)) = search rules in
-    let h = subst (SumIs a.days.now (settings_in (nat_abs (rd (get_or a.nodes.now (a.at + 1) (pos 0)))))) c.in-Months.is c.month_sum-summed.ensures in
-    rows.month_filled a.days.now a.nodes.now a.at c.in-Months.n (rows.as_digits a.days.now c.requires.1 _ _ c.requires.2 fp fd (summed.Months c.in-Months.n) h) _ (rows.month_is a.days.now c.requires.1 _ _ c.requires.2 fp fd _ h)
+    let h = subst (SumIs a.days.now (settings_in (nat_abs (rd (get_or a.nodes.now (a.at + 1) (pos 0)))))) c.in_ok-sum.was c.month_sum.ensures in
+    rows.month_filled a.days.now a.nodes.now a.at c.in_ok-sum.sum (rows.as_digits a.days.now c.requires.1 _ _ c.requires.2 fp fd (Ok c.in_ok-sum.sum) h) _ (rows.month_is a.days.now c.requires.1 _ _ c.requires.2 fp fd _ h)
 
-pub returns-in-Unset : goal.returns-in-Unset
-returns-in-Unset c =
+pub returns-in_err-sum : goal.returns-in_err-sum
+returns-in_err-sum c =
     let a = c.args in
     let fp : SFits w64 (get_or a.nodes.now a.at (pos 0)) = search rules in
     let fd : SFits w64 (get_or a.nodes.now (a.at + 1) (pos 0)) = search rules in
-    let h = subst (SumIs a.days.now (settings_in (nat_abs (rd (get_or a.nodes.now (a.at + 1) (pos 0)))))) c.in-Unset.is c.month_sum-summed.ensures in
-    rows.month_unset a.days.now a.nodes.now a.at (rows.as_digits a.days.now c.requires.1 _ _ c.requires.2 fp fd summed.Unset h)
+    let h = subst (SumIs a.days.now (settings_in (nat_abs (rd (get_or a.nodes.now (a.at + 1) (pos 0)))))) c.in_err-sum.was c.month_sum.ensures in
+    subst (MonthIs a.days.now a.at a.nodes.now a.nodes.now) (sym (handed_up _ c.from_residual.ensures.1)) (rows.month_unset a.days.now a.nodes.now a.at (rows.as_digits a.days.now c.requires.1 _ _ c.requires.2 fp fd (Err _) h))

@@ -1,4 +1,3 @@
-use borrow.Author.Rules.{rules}
 use mathlib.Core.Path.{subst}
 use native.Mathlib.Omega.{arith}
 use Rattle.sheets.specs.Held.{TriedIs}
@@ -6,13 +5,13 @@ use Rattle.sheets.proofs.long_sheet.Goals as goal
 
 -- `long_sheet` meets its contract.
 
-pub returns-in-Answered : goal.returns-in-Answered
-returns-in-Answered c =
+pub returns-in-Some : goal.returns-in-Some
+returns-in-Some c =
     let r = c.answer_in-tried in
-    subst (TriedIs c.args.input.now _ _ c.args.out.now r.new.out) c.in-Answered.is r.ensures
+    subst (TriedIs c.args.input.now _ _ c.args.out.now r.new.out) c.in-Some.is r.ensures
 
-pub returns-in-Crowded : goal.returns-in-Crowded
-returns-in-Crowded c =
+pub returns-in-None : goal.returns-in-None
+returns-in-None c =
     let r = c.answer_in-tried in
-    let t = subst (TriedIs c.args.input.now _ _ c.args.out.now r.new.out) c.in-Crowded.is r.ensures in
+    let t = subst (TriedIs c.args.input.now _ _ c.args.out.now r.new.out) c.in-None.is r.ensures in
     absurd (t.1 (omega arith, omega arith))

@@ -1,6 +1,6 @@
 use borrow.Author.Rules.{rules}
 use lib.IntN.{nat_abs}
-use mathlib.Core.Path.{◌∙◌, ◌≡◌, ap, refl}
+use mathlib.Core.Path.{◌≡◌, ap, refl}
 use mir.Facts.{to_z-of_z}
 use mir.Syntax.{w64}
 use mir.Val.{SFits}

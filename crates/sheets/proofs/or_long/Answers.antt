@@ -1,4 +1,3 @@
-use borrow.Author.Rules.{rules}
 use mathlib.Core.Path.{◌≡◌, subst}
 use Rattle.language.specs.Sheet.{sheet_call}
 use Rattle.sheets.specs.Held.{TriedIs}
@@ -7,11 +6,11 @@ use Rattle.sheets.proofs.or_long.Goals as goal
 
 -- `or_long` meets its contract.
 
-pub returns-in-Answered : goal.returns-in-Answered
-returns-in-Answered c = λ m p b h. subst (TriedIs c.args.input.now m p b c.args.out.now) c.in-Answered.is h
+pub returns-in-Some : goal.returns-in-Some
+returns-in-Some c = λ m p b h. subst (TriedIs c.args.input.now m p b c.args.out.now) c.in-Some.is h
 
-pub returns-in-Crowded : goal.returns-in-Crowded
-returns-in-Crowded c = λ m p b h.
+pub returns-in-None : goal.returns-in-None
+returns-in-None c = λ m p b h.
     let a = c.args in
-    let t = subst (TriedIs a.input.now m p b a.out.now) c.in-Crowded.is h in
+    let t = subst (TriedIs a.input.now m p b a.out.now) c.in-None.is h in
     subst (λ o. (c.long_sheet.new.out ≡ (sheet_call a.input.now o).buffer) × (written_answer c.long_sheet.result ≡ (sheet_call a.input.now o).answer)) t.0 c.long_sheet.ensures

@@ -1,14 +1,8 @@
-use borrow.Author.Rules.{rules}
-use lib.IntN.{pos}
-use mathlib.Core.Path.{◌∙◌, ◌≡◌, ap}
-use native.Mathlib.Omega.{arith}
+use mathlib.Core.Path.{◌∙◌, ap}
 use mir.Syntax.{w64}
 use mir.Val.{to_z}
 use Rattle.sheets.proofs.Refusals.{number_read, refusal_into_lem}
 use Rattle.sheets.proofs.refuse.Goals as goal
-
-pub write_refusal-requires : goal.write_refusal-requires
-write_refusal-requires c = omega arith
 
 pub returns : goal.returns
 returns c =

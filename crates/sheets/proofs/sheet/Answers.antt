@@ -1,4 +1,3 @@
-use borrow.Author.Rules.{rules}
 use mathlib.Core.Path.{◌∙◌, ap}
 use Rattle.sheets.proofs.SheetReads.{too_long}
 use Rattle.sheets.proofs.sheet.Goals as goal

@@ -6,7 +6,6 @@ use Rattle.copies.proofs.Appending.{appended_as, appended_then, kept_from, row_o
 use Rattle.copies.specs.Copied.{changed_rows}
 use Rattle.nodes.specs.Table.{nat_of}
 use Rattle.steps.specs.Offsets.{restored_row}
-use borrow.Author.Rules.{rules}
 use Rattle.steps.proofs.keep_waiting.Goals as goal
 
 pub earlier-d-requires : goal.earlier-d-requires
@@ -16,7 +15,7 @@ earlier-d-requires c =
 pub returns : goal.returns
 returns c =
     let p = c.put_delay-head.ensures in
-    let q = c.restore_rows.ensures in
+    let q = c.copy_rows.ensures in
     let e = kept_from (c.args.at + 1) (omega (arith, p.ends, c.requires.5)) p in (
       refl,
       record {

@@ -1,5 +1,4 @@
 use Rattle.text.proofs.TextLaws.{count_is}
-use borrow.Author.Rules.{rules}
 use Rattle.text.proofs.plan_nodes.Goals as goal
 
 pub returns : goal.returns

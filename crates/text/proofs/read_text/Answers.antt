@@ -1,10 +1,9 @@
-use borrow.Author.Rules.{rules}
 use Prim.Native.Nat.{◌<◌, ◌≤◌, ℕ}
 use lib.ListN.{length}
 use mathlib.Core.Path.{refl, subst}
 use native.Mathlib.Omega.{arith}
 use Rattle.text.specs.Letters.{form_of}
-use Rattle.text.specs.Whole.{ReadIs}
+use Rattle.integers.proofs.Passed.{handed_up}
 use Rattle.text.proofs.PackedLaws.{longest_small}
 use Rattle.text.proofs.TextLaws.{text_left, text_long, text_read, text_refused}
 use Rattle.text.proofs.read_text.Goals as goal
@@ -19,19 +18,17 @@ read_rows-requires c =
     let a = c.args in
     (omega (arith, c.longest.ensures, c.if-longest-text.false, longest_small a.form), c.requires)
 
-pub returns-then-next-text : goal.returns-then-next-text
-returns-then-next-text c =
+pub returns-then-read-text : goal.returns-then-read-text
+returns-then-read-text c =
     let a = c.args in
-    let g = subst (ReadIs (form_of a.form) a.text.now c.read_rows.new.nodes) c.in-Done.is c.read_rows.ensures.is in
-    record { is = text_left (form_of a.form) a.text.now (subst (λ (n : ℕ). length a.text.now ≤ n) c.longest.ensures c.if-longest-text.false) _ _ _ g c.if-next-text.true; kept = c.read_rows.ensures.kept }
+    record { is = text_left (form_of a.form) a.text.now (subst (λ (n : ℕ). length a.text.now ≤ n) c.longest.ensures c.if-longest-text.false) _ _ _ c.in_ok-read.ensures.is c.if-read-text.true; kept = c.read_rows.ensures.kept }
 
-pub returns-else-next-text : goal.returns-else-next-text
-returns-else-next-text c =
+pub returns-clause-is : goal.returns-clause-is
+returns-clause-is c =
     let a = c.args in
-    let g = subst (ReadIs (form_of a.form) a.text.now c.read_rows.new.nodes) c.in-Done.is c.read_rows.ensures.is in
-    record { is = text_read (form_of a.form) a.text.now (subst (λ (n : ℕ). length a.text.now ≤ n) c.longest.ensures c.if-longest-text.false) _ _ _ g c.if-next-text.false; kept = c.read_rows.ensures.kept }
+    text_read (form_of a.form) a.text.now (subst (λ (n : ℕ). length a.text.now ≤ n) c.longest.ensures c.if-longest-text.false) _ _ _ c.in_ok-read.ensures.is c.if-read-text.false
 
-pub returns-in-Stopped : goal.returns-in-Stopped
-returns-in-Stopped c =
+pub returns-in_err-read-clause-is : goal.returns-in_err-read-clause-is
+returns-in_err-read-clause-is c =
     let a = c.args in
-    record { is = text_refused (form_of a.form) a.text.now (subst (λ (n : ℕ). length a.text.now ≤ n) c.longest.ensures c.if-longest-text.false) _ (subst (ReadIs (form_of a.form) a.text.now c.read_rows.new.nodes) c.in-Stopped.is c.read_rows.ensures.is); kept = c.read_rows.ensures.kept }
+    rw (handed_up _ c.from_residual.ensures.1) (text_refused (form_of a.form) a.text.now (subst (λ (n : ℕ). length a.text.now ≤ n) c.longest.ensures c.if-longest-text.false) _ c.in_err-read.ensures.is)

@@ -6,9 +6,6 @@ use Rattle.unit.proofs.Puts.{passed_on}
 use Rattle.unit.specs.Returned.{measures}
 use Rattle.unit.proofs.codhungu_check.Goals as goal
 
-pub tell_check-requires : goal.tell_check-requires
-tell_check-requires c = c.check-checking.ensures.1
-
 pub returns : goal.returns
 returns c =
     let k = c.tell_check in

@@ -7,7 +7,7 @@ use mir.Syntax.{w32}
 use mir.Val.{SFits}
 use native.Mathlib.Omega.{arith}
 use Rattle.language.specs.Calls.{step_call, step_text}
-use Rattle.rules.specs.Answers.{given_of}
+use Rattle.tables.specs.Given.{given_of}
 use Rattle.unit.proofs.Buffers.{both, counted, part_length, within_out}
 use Rattle.unit.specs.Returned.{money_bytes}
 use Rattle.unit.proofs.codhungu_step.Goals as goal

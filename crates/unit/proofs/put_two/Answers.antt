@@ -1,4 +1,3 @@
-use borrow.Author.Rules.{rules}
 use mathlib.Core.List.{◌∷◌, []}
 use mir.Facts.{to_z-of_z}
 use native.Mathlib.Omega.{arith}

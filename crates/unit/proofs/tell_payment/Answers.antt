@@ -9,17 +9,17 @@ use Rattle.unit.proofs.Puts.{told, untold}
 use Rattle.unit.specs.Returned.{money}
 use Rattle.unit.proofs.tell_payment.Goals as goal
 
-pub returns-in-Pays : goal.returns-in-Pays
+pub returns-in-Ok : goal.returns-in-Ok
 unfolding paying_answer
-returns-in-Pays c =
+returns-in-Ok c =
     let k = c.put_one in
     let f : SFits w32 k.result = search rules in
-    let v : SFits w64 c.in-Pays.pence.0 = search rules in
-    told money c.args.answer.now c.in-Pays.pence.0 (ap paying_answer c.in-Pays.is) k.result k.new.answer f (rw (to_z-of_z v) at k.ensures)
+    let v : SFits w64 c.in-Ok.pence.0 = search rules in
+    told money c.args.answer.now c.in-Ok.pence.0 (ap paying_answer c.in-Ok.is) k.result k.new.answer f (rw (to_z-of_z v) at k.ensures)
 
-pub returns-in-Refused : goal.returns-in-Refused
+pub returns-in-Err : goal.returns-in-Err
 unfolding paying_answer
-returns-in-Refused c =
+returns-in-Err c =
     let k = c.refused in
     let f : SFits w32 k.result = search rules in
-    untold money c.args.answer.now (number_of c.in-Refused.refusal) (ap paying_answer c.in-Refused.is) k.result f k.ensures
+    untold money c.args.answer.now (number_of c.in-Err.refusal) (ap paying_answer c.in-Err.is) k.result f k.ensures

@@ -11,16 +11,16 @@ use Rattle.unit.proofs.tell_sheet.Goals as goal
 pub overflow_cast-bytes : goal.overflow_cast-bytes
 unfolding written_answer
 overflow_cast-bytes c =
-    count_fits c.in-Bytes.bytes (c.requires.within _ (ap written_answer c.in-Bytes.is))
+    count_fits c.in-Ok.bytes (c.requires.within _ (ap written_answer c.in-Ok.is))
 
-pub returns-in-Bytes : goal.returns-in-Bytes
+pub returns-in-Ok : goal.returns-in-Ok
 unfolding written_answer
-returns-in-Bytes c =
+returns-in-Ok c =
     let k = c.put_one in
     let f : SFits w32 k.result = search rules in
-    let n = c.requires.within _ (ap written_answer c.in-Bytes.is) in
-    told bytes_only c.args.answer.now (record { value = tt; count = c.in-Bytes.bytes }) (ap written_answer c.in-Bytes.is) k.result k.new.answer f (rw (to_z_pos w64 c.in-Bytes.bytes n) at k.ensures)
+    let n = c.requires.within _ (ap written_answer c.in-Ok.is) in
+    told bytes_only c.args.answer.now (record { value = tt; count = c.in-Ok.bytes }) (ap written_answer c.in-Ok.is) k.result k.new.answer f (rw (to_z_pos w64 c.in-Ok.bytes n) at k.ensures)
 
-pub returns-in-NoRoom : goal.returns-in-NoRoom
+pub returns-in-Err : goal.returns-in-Err
 unfolding into_answer written_answer
-returns-in-NoRoom c = sym (ap (λ w. into_answer bytes_only c.args.answer.now (written_answer w)) c.in-NoRoom.is)
+returns-in-Err c = sym (ap (λ w. into_answer bytes_only c.args.answer.now (written_answer w)) c.in-Err.is)

@@ -10,23 +10,23 @@ use Rattle.unit.proofs.Puts.{count_fits, told, untold}
 use Rattle.unit.specs.Returned.{money_bytes}
 use Rattle.unit.proofs.tell_step.Goals as goal
 
-pub overflow_cast-bytes : goal.overflow_cast-bytes
+pub overflow_cast-stepped : goal.overflow_cast-stepped
 unfolding stepping_answer
-overflow_cast-bytes c =
-    count_fits c.in-Stepped.bytes (c.requires.within _ (ap stepping_answer c.in-Stepped.is))
+overflow_cast-stepped c =
+    count_fits c.in-Ok.stepped.bytes (c.requires.within _ (ap stepping_answer c.in-Ok.is))
 
-pub returns-in-Stepped : goal.returns-in-Stepped
+pub returns-in-Ok : goal.returns-in-Ok
 unfolding stepping_answer
-returns-in-Stepped c =
+returns-in-Ok c =
     let k = c.put_two in
     let f : SFits w32 k.result = search rules in
-    let v : SFits w64 c.in-Stepped.pence.0 = search rules in
-    let n = c.requires.within _ (ap stepping_answer c.in-Stepped.is) in
-    told money_bytes c.args.answer.now (record { value = c.in-Stepped.pence.0; count = c.in-Stepped.bytes }) (ap stepping_answer c.in-Stepped.is) k.result k.new.answer f (rw (to_z-of_z v, to_z_pos w64 c.in-Stepped.bytes n) at k.ensures)
+    let v : SFits w64 c.in-Ok.stepped.pence.0 = search rules in
+    let n = c.requires.within _ (ap stepping_answer c.in-Ok.is) in
+    told money_bytes c.args.answer.now (record { value = c.in-Ok.stepped.pence.0; count = c.in-Ok.stepped.bytes }) (ap stepping_answer c.in-Ok.is) k.result k.new.answer f (rw (to_z-of_z v, to_z_pos w64 c.in-Ok.stepped.bytes n) at k.ensures)
 
-pub returns-in-Refused : goal.returns-in-Refused
+pub returns-in-Err : goal.returns-in-Err
 unfolding stepping_answer
-returns-in-Refused c =
+returns-in-Err c =
     let k = c.refused in
     let f : SFits w32 k.result = search rules in
-    untold money_bytes c.args.answer.now (number_of c.in-Refused.refusal) (ap stepping_answer c.in-Refused.is) k.result f k.ensures
+    untold money_bytes c.args.answer.now (number_of c.in-Err.refusal) (ap stepping_answer c.in-Err.is) k.result f k.ensures

@@ -9,15 +9,15 @@ use Rattle.unit.proofs.Puts.{told, untold}
 use Rattle.unit.specs.Returned.{money}
 use Rattle.unit.proofs.tell_value.Goals as goal
 
-pub returns-in-Value : goal.returns-in-Value
-returns-in-Value c =
+pub returns-in-Ok : goal.returns-in-Ok
+returns-in-Ok c =
     let k = c.put_one in
     let f : SFits w32 k.result = search rules in
-    let v : SFits w64 c.in-Value.value.0 = search rules in
-    told money c.args.answer.now c.in-Value.value.0 (ap evaluating_answer c.in-Value.is) k.result k.new.answer f (rw (to_z-of_z v) at k.ensures)
+    let v : SFits w64 c.in-Ok.value.0 = search rules in
+    told money c.args.answer.now c.in-Ok.value.0 (ap evaluating_answer c.in-Ok.is) k.result k.new.answer f (rw (to_z-of_z v) at k.ensures)
 
-pub returns-in-Refused : goal.returns-in-Refused
-returns-in-Refused c =
+pub returns-in-Err : goal.returns-in-Err
+returns-in-Err c =
     let k = c.refused in
     let f : SFits w32 k.result = search rules in
-    untold money c.args.answer.now (number_of c.in-Refused.refusal) (ap evaluating_answer c.in-Refused.is) k.result f k.ensures
+    untold money c.args.answer.now (number_of c.in-Err.refusal) (ap evaluating_answer c.in-Err.is) k.result f k.ensures

@@ -17,7 +17,7 @@ reading-requires c =
     let e = c.later.ensures in (
       c.requires.0,
       four_month _ c.requires.1 0 (omega arith) _ e,
-      subst (λ r. Reading c.args.values.now.now r (slot_at c.args.nodes.now.now c.args.at 2)) (sym (four_is _ c.requires.1 0 (omega arith) _ e)) (c.requires.2 0 (omega arith)),
+      subst (λ r. Reading c.args.tables.now.values.now r (slot_at c.args.tables.now.nodes.now c.args.at 2)) (sym (four_is _ c.requires.1 0 (omega arith) _ e)) (c.requires.2 0 (omega arith)),
     )
 
 pub later-requires-2 : goal.later-requires-2
@@ -28,7 +28,7 @@ reading-requires-2 c =
     let e = c.later-2.ensures in (
       c.requires.0,
       four_month _ c.requires.1 1 (omega arith) _ e,
-      subst (λ r. Reading c.args.values.now.now r (slot_at c.args.nodes.now.now c.args.at 2)) (sym (four_is _ c.requires.1 1 (omega arith) _ e)) (c.requires.2 1 (omega arith)),
+      subst (λ r. Reading c.args.tables.now.values.now r (slot_at c.args.tables.now.nodes.now c.args.at 2)) (sym (four_is _ c.requires.1 1 (omega arith) _ e)) (c.requires.2 1 (omega arith)),
     )
 
 pub later-requires-3 : goal.later-requires-3
@@ -39,7 +39,7 @@ reading-requires-3 c =
     let e = c.later-3.ensures in (
       c.requires.0,
       four_month _ c.requires.1 2 (omega arith) _ e,
-      subst (λ r. Reading c.args.values.now.now r (slot_at c.args.nodes.now.now c.args.at 2)) (sym (four_is _ c.requires.1 2 (omega arith) _ e)) (c.requires.2 2 (omega arith)),
+      subst (λ r. Reading c.args.tables.now.values.now r (slot_at c.args.tables.now.nodes.now c.args.at 2)) (sym (four_is _ c.requires.1 2 (omega arith) _ e)) (c.requires.2 2 (omega arith)),
     )
 
 pub later-requires-4 : goal.later-requires-4
@@ -50,13 +50,13 @@ reading-requires-4 c =
     let e = c.later-4.ensures in (
       c.requires.0,
       four_month _ c.requires.1 3 (omega arith) _ e,
-      subst (λ r. Reading c.args.values.now.now r (slot_at c.args.nodes.now.now c.args.at 2)) (sym (four_is _ c.requires.1 3 (omega arith) _ e)) (c.requires.2 3 (omega arith)),
+      subst (λ r. Reading c.args.tables.now.values.now r (slot_at c.args.tables.now.nodes.now c.args.at 2)) (sym (four_is _ c.requires.1 3 (omega arith) _ e)) (c.requires.2 3 (omega arith)),
     )
 
 pub returns : goal.returns
 unfolding pence_in
 returns c =
-    let at : ℕ → ℤ = λ r. get_or c.args.values.now.now (nat_abs (pos r +ℤ slot_at c.args.nodes.now.now c.args.at 2)) (pos 0) in
+    let at : ℕ → ℤ = λ r. get_or c.args.tables.now.values.now (nat_abs (pos r +ℤ slot_at c.args.tables.now.nodes.now c.args.at 2)) (pos 0) in
     each _
     (c.reading.ensures ∙ ap at (four_is _ c.requires.1 0 (omega arith) _ c.later.ensures))
     (c.reading-2.ensures ∙ ap at (four_is _ c.requires.1 1 (omega arith) _ c.later-2.ensures))

@@ -17,5 +17,5 @@ quotient-requires c =
 pub returns : goal.returns
 returns c =
     let f : SFits w64 c.slot-n.result = search rules in
-    let d = divisor_is (slot_at c.args.nodes.now.now c.args.at 1) c.requires.1 in
+    let d = divisor_is (slot_at c.args.nodes.now c.args.at 1) c.requires.1 in
     c.quotient.ensures ∙ ap (floor_z c.args.x.0) (ap nat_abs (to_z-of_z f ∙ c.slot-n.ensures) ∙ d)

@@ -11,4 +11,4 @@ pub returns-in_default : goal.returns-in_default
 returns-in_default c = absurd (never_outside _ _ _ c.lookup-found.ensures c.in_default.is)
 
 pub returns : goal.returns
-returns c = found_is _ _ _ c.lookup-found.ensures _ c.in-Value.is
+returns c = found_is _ _ _ c.lookup-found.ensures _ c.in-Some.is

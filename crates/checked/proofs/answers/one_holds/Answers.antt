@@ -1,22 +1,16 @@
-use mathlib.Core.Path.{ap, sym}
-use mathlib.Core.Bool.{◌||◌}
-use Rattle.language.specs.Answer.{got}
-use Rattle.checked.proofs.Combined.{both_got, first_refused, or_second, second_refused}
+use mathlib.Core.Path.{◌∙◌, ap, sym}
+use Rattle.integers.proofs.Passed.{handed_up}
+use Rattle.checked.proofs.Combined.{both_got, first_refused, second_refused}
 use Rattle.checked.specs.Answers.{tested_answer}
-use borrow.Author.Rules.{rules}
+use Rattle.language.specs.Answer.{got}
+use mathlib.Core.Bool.{◌||◌}
 use Rattle.checked.proofs.answers.one_holds.Goals as goal
 
-pub returns-in-Holds-y : goal.returns-in-Holds-y
-returns-in-Holds-y c = sym (both_got (λ a b. got (a || b)) (ap tested_answer c.in-Holds.is) (ap tested_answer c.in-Holds-y.is))
+pub returns-in_err-s : goal.returns-in_err-s
+returns-in_err-s c = ap tested_answer (handed_up _ c.from_residual.ensures.1) ∙ sym (first_refused (λ a b. got (a || b)) _ (ap tested_answer c.in_err-s.was))
 
-pub returns-in-Fails-y : goal.returns-in-Fails-y
-returns-in-Fails-y c = sym (both_got (λ a b. got (a || b)) (ap tested_answer c.in-Holds.is) (ap tested_answer c.in-Fails-y.is))
+pub returns-in_err-t : goal.returns-in_err-t
+returns-in_err-t c = ap tested_answer (handed_up _ c.from_residual-in_err-t.ensures.1) ∙ sym (second_refused (λ a b. got (a || b)) (ap tested_answer c.in_ok-s.was) (ap tested_answer c.in_err-t.was))
 
-pub returns-in-Refused-y : goal.returns-in-Refused-y
-returns-in-Refused-y c = sym (second_refused (λ a b. got (a || b)) (ap tested_answer c.in-Holds.is) (ap tested_answer c.in-Refused-y.is))
-
-pub returns-in-Fails : goal.returns-in-Fails
-returns-in-Fails c = or_second (ap tested_answer c.in-Fails.is) c.args.y
-
-pub returns-in-Refused : goal.returns-in-Refused
-returns-in-Refused c = sym (first_refused (λ a b. got (a || b)) (tested_answer c.args.y) (ap tested_answer c.in-Refused.is))
+pub returns : goal.returns
+returns c = sym (both_got (λ a b. got (a || b)) (ap tested_answer c.in_ok-s.was) (ap tested_answer c.in_ok-t.was))

@@ -1,20 +1,17 @@
-use mathlib.Core.Path.{◌∙◌, ap, subst, sym}
+use mathlib.Core.Path.{◌∙◌, ap, sym}
+use Rattle.integers.proofs.Passed.{handed_up}
 use Rattle.checked.proofs.Combined.{amount_within_lem, both_got, first_refused, second_refused}
-use Rattle.checked.specs.Answers.{SmallValued, amount_answer, valued_answer}
+use Rattle.checked.specs.Answers.{amount_answer, valued_answer}
 use Rattle.language.specs.Limits.{max_amount}
 use Rattle.language.specs.Payoff.Evaluate.{in_range}
 use lib.IntN.{◌*ℤ◌}
-use borrow.Author.Rules.{rules}
 use Rattle.checked.proofs.answers.product_of.Goals as goal
 
-pub product-requires : goal.product-requires
-product-requires c = (subst SmallValued c.in-Value.is c.requires.0, subst SmallValued c.in-Value-y.is c.requires.1)
+pub returns-in_err-p : goal.returns-in_err-p
+returns-in_err-p c = ap valued_answer (handed_up _ c.from_residual.ensures.1) ∙ sym (first_refused (λ a b. in_range max_amount (a *ℤ b)) _ (ap valued_answer c.in_err-p.was))
 
-pub returns-in-Value-y : goal.returns-in-Value-y
-returns-in-Value-y c = c.amount_of.ensures ∙ ap amount_answer c.product.ensures ∙ amount_within_lem _ ∙ sym (both_got (λ a b. in_range max_amount (a *ℤ b)) (ap valued_answer c.in-Value.is) (ap valued_answer c.in-Value-y.is))
+pub returns-in_err-q : goal.returns-in_err-q
+returns-in_err-q c = ap valued_answer (handed_up _ c.from_residual-in_err-q.ensures.1) ∙ sym (second_refused (λ a b. in_range max_amount (a *ℤ b)) (ap valued_answer c.in_ok-p.was) (ap valued_answer c.in_err-q.was))
 
-pub returns-in-Refused-y : goal.returns-in-Refused-y
-returns-in-Refused-y c = sym (second_refused (λ a b. in_range max_amount (a *ℤ b)) (ap valued_answer c.in-Value.is) (ap valued_answer c.in-Refused-y.is))
-
-pub returns-in-Refused : goal.returns-in-Refused
-returns-in-Refused c = sym (first_refused (λ a b. in_range max_amount (a *ℤ b)) (valued_answer c.args.y) (ap valued_answer c.in-Refused.is))
+pub returns : goal.returns
+returns c = c.amount_of.ensures ∙ ap amount_answer c.product.ensures ∙ amount_within_lem _ ∙ sym (both_got (λ a b. in_range max_amount (a *ℤ b)) (ap valued_answer c.in_ok-p.was) (ap valued_answer c.in_ok-q.was))

@@ -20,4 +20,4 @@ returns-in_default-u c = λ e. absurd (c.unsure-in_default-u.ensures e)
 
 pub returns : goal.returns
 unfolding pence_in one_of
-returns c = λ e. each _ (ap valued_answer (sym c.in-Value.is)) (ap valued_answer (sym c.in-Value-y.is)) (ap valued_answer (sym c.in-Value-z.is)) (ap valued_answer (sym c.in-Value-u.is))
+returns c = λ e. each _ (ap valued_answer (sym c.in-Ok.is)) (ap valued_answer (sym c.in-Ok-y.is)) (ap valued_answer (sym c.in-Ok-z.is)) (ap valued_answer (sym c.in-Ok-u.is))

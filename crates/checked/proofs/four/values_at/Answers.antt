@@ -6,8 +6,8 @@ use Rattle.amounts.proofs.FourMonths.{each}
 use Rattle.amounts.specs.FourMonths.{pence_in}
 use Rattle.language.specs.Answer.{got}
 use Rattle.tables.specs.Lookup.{standing}
-use Rattle.tables.specs.declared.lookup.Place.TheVariants.{At}
 use Rattle.checked.proofs.four.values_at.Goals as goal
+use Rattle.std.specs.Prelude.{Some}
 
 pub returns : goal.returns
 unfolding pence_in standing
@@ -15,7 +15,7 @@ returns c =
     let a = c.args in
     let z : a.i ≡ a.i + 0 = omega arith in
     λ e. each _
-    (ap got c.value_at.ensures ∙ ap (λ n. standing a.values.now (At n)) z)
+    (ap got c.value_at.ensures ∙ ap (λ n. standing a.values.now (Some n)) z)
     (ap got c.value_at-2.ensures)
     (ap got c.value_at-3.ensures)
     (ap got c.value_at-4.ensures)

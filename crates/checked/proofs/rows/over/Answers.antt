@@ -4,8 +4,8 @@ use Rattle.checked.specs.Answers.{SmallValued, valued_answer}
 use borrow.Author.Rules.{rules}
 use Rattle.checked.proofs.rows.over.Goals as goal
 
-pub returns-in-Value : goal.returns-in-Value
-returns-in-Value c = divided _ (ap valued_answer c.in-Value.is) (subst SmallValued c.in-Value.is c.requires.2) c.over.ensures
+pub returns-in-Ok : goal.returns-in-Ok
+returns-in-Ok c = divided _ (ap valued_answer c.in-Ok.is) (subst SmallValued c.in-Ok.is c.requires.2) c.over.ensures
 
-pub returns-in-Refused : goal.returns-in-Refused
-returns-in-Refused c = undivided _ (ap valued_answer c.in-Refused.is)
+pub returns-in-Err : goal.returns-in-Err
+returns-in-Err c = undivided _ (ap valued_answer c.in-Err.is)

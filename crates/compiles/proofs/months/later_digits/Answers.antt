@@ -2,7 +2,6 @@ use Prim.Native.Nat.{◌<◌, ◌^◌}
 use lib.IntN.{◌+ℤ◌, pos}
 use mathlib.Core.Path.{◌∙◌, ap, subst, sym}
 use Rattle.compiles.proofs.Delays.{both_fit, both_read, closed_digits, open_digits, open_in, weight_small}
-use borrow.Author.Rules.{rules}
 use Rattle.compiles.proofs.months.later_digits.Goals as goal
 
 pub setting_of-requires : goal.setting_of-requires

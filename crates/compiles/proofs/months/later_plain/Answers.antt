@@ -1,4 +1,3 @@
-use borrow.Author.Rules.{rules}
 use mathlib.Core.Path.{◌∙◌, sym}
 use native.Mathlib.Omega.{arith}
 use Rattle.compiles.proofs.Delays.{both_fit, both_read, closed_in, closed_plain, open_plain}

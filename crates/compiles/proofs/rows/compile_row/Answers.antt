@@ -1,4 +1,3 @@
-use borrow.Author.Rules.{rules}
 use mathlib.Core.Path.{◌∙◌, sym}
 use Rattle.compiles.proofs.MonthRows.{index_compiled, other_compiled}
 use Rattle.copies.proofs.Appending.{appended_as}

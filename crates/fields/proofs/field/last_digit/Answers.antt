@@ -4,7 +4,6 @@ use Rattle.fields.proofs.FieldLaws.{digit_last}
 use Rattle.fields.specs.Classes.{Limited}
 use Rattle.fields.specs.Fields.{DigitIs}
 use Rattle.fields.specs.declared.field.Range.{Range}
-use borrow.Author.Rules.{rules}
 use lib.ListN.{get_or}
 use mathlib.Core.Path.{subst, sym}
 use native.Mathlib.Omega.{arith}

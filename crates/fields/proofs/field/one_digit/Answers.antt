@@ -7,14 +7,13 @@ use Rattle.fields.specs.Fields.{DigitIs}
 use Rattle.fields.specs.declared.field.Range.{Range}
 use Rattle.fields.proofs.ClassLaws.{limited}
 use Rattle.fields.proofs.FieldLaws.{digit_tried}
-use borrow.Author.Rules.{rules}
 use Rattle.fields.proofs.field.one_digit.Goals as goal
 
 pub digit_in-requires : goal.digit_in-requires
 digit_in-requires c = (omega arith, subst Limited (sym c.range_of.ensures) (limited c.args.class))
 
-pub returns-then-text-at-eq44 : goal.returns-then-text-at-eq44
-returns-then-text-at-eq44 c =
+pub returns-in-48-to-57 : goal.returns-in-48-to-57
+returns-in-48-to-57 c =
     let a = c.args in
     let t = a.text.now in
     digit_tried t a.at a.class (omega arith) (omega arith) c.requires c.if-text-at-eq44.true c.digit_in.result

@@ -3,18 +3,12 @@ use mathlib.Core.Path.{subst, sym}
 use native.Mathlib.Omega.{arith}
 use Rattle.fields.specs.Numbers.{NumberIs}
 use Rattle.fields.specs.Positions.{up_to}
-use Rattle.fields.proofs.NumberLaws.{led_head, led_natural, number_plus, small_natural}
-use borrow.Author.Rules.{rules}
+use Rattle.fields.proofs.NumberLaws.{led_head, led_natural, number_plus}
 use Rattle.fields.proofs.numbers.figure_at.Goals as goal
+use Rattle.fields.proofs.numbers.figure_at.Goals.{in-49-to-57, in_default, in_default-2}
 
-pub positive-requires : goal.positive-requires
-positive-requires c =
-    let a = c.args in
-    let t = a.text.now in
-    small_natural (up_to 44 (drop a.at t)) a.at c.digits_to_comma.result (led_natural t a.at c.if-at-text.true (omega arith) (omega arith) c.digits_to_comma.result c.digits_to_comma.ensures)
-
-pub returns-in-49-to-57 : goal.returns-in-49-to-57
-returns-in-49-to-57 c =
+pub returns-then-matches : goal.returns-then-matches
+returns-then-matches c =
     let a = c.args in
     let t = a.text.now in
     subst (NumberIs (up_to 44 (drop a.at t)) a.at) (sym c.positive.ensures)

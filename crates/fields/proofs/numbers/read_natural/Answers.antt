@@ -1,90 +1,55 @@
-use Prim.Native.Nat.{◌-◌, ℕ}
 use lib.ListN.{drop}
-use mathlib.Core.List.{List}
-use mathlib.Core.Path.{◌∙◌, subst, sym}
+use mathlib.Core.Path.{◌∙◌, sym}
 use native.Mathlib.Omega.{arith}
-use Rattle.fields.specs.Numbers.{DigitsAre}
 use Rattle.fields.specs.Positions.{up_to}
 use Rattle.fields.proofs.NumberLaws.{natural_broken, natural_empty, natural_more, natural_one, natural_zero}
 use Rattle.fields.proofs.Positions.{head_of, up_fits}
-use borrow.Author.Rules.{rules}
 use Rattle.fields.proofs.numbers.read_natural.Goals as goal
+use Rattle.fields.proofs.numbers.read_natural.Goals.{else-n-at-ne1-via-then-n-at-ne1+else-text-at-eq48, else-n-at-ne1-via-else-n-at-ne1}
 
-pub returns-then-end-at : goal.returns-then-end-at
-returns-then-end-at c =
-    let r = subst (DigitsAre _ _) c.in-Plain.is c.digits.ensures in
-    let f : List ℕ = up_to c.args.stop (drop
-    c.args.at c.args.text.now) in
-    natural_empty f (omega (arith, r.ends, c.if-end-at.true))
+pub returns-in_err-n : goal.returns-in_err-n
+returns-in_err-n c = rw c.from_residual.ensures (natural_broken _ c.in_err-n.ensures)
 
-pub overflow_sub-end : goal.overflow_sub-end
-overflow_sub-end c =
-    let r = subst (DigitsAre _ _) c.in-Plain.is c.digits.ensures in
-    omega (arith, r.ends)
-
-pub returns-then-end-at-eq1 : goal.returns-then-end-at-eq1
-returns-then-end-at-eq1 c =
-    let r = subst (DigitsAre _ _) c.in-Plain.is c.digits.ensures in
-    let f : List ℕ = up_to c.args.stop (drop
-    c.args.at
-    c.args.text.now) in
-    natural_one f _ _ _ r (omega (arith, r.ends, c.if-end-at-eq1.true))
+pub returns-then-n-at : goal.returns-then-n-at
+returns-then-n-at c =
+    let r = c.in_ok-n.ensures in
+    let f = up_to c.args.stop (drop c.args.at c.args.text.now) in
+    natural_empty f (omega (arith, r.ends, c.if-n-at.true))
 
 pub bounds-text-at : goal.bounds-text-at
 bounds-text-at c =
-    let r = subst (DigitsAre _ _) c.in-Plain.is
-    c.digits.ensures in
-    let f : List ℕ = up_to c.args.stop (drop
-    c.args.at
-    c.args.text.now) in
+    let r = c.in_ok-n.ensures in
+    let f = up_to c.args.stop (drop c.args.at c.args.text.now) in
     let k = up_fits c.args.stop
     c.args.text.now
     c.args.at
     c.requires.0 in
-    omega (arith, r.ends, c.if-end-at.false)
+    omega (arith, r.ends, c.if-n-at.false)
 
 pub returns-then-text-at-eq48 : goal.returns-then-text-at-eq48
 returns-then-text-at-eq48 c =
-    let r = subst (DigitsAre _ _) c.in-Plain.is
-    c.digits.ensures in
-    let f : List ℕ = up_to c.args.stop (drop
-    c.args.at
-    c.args.text.now) in
+    let r = c.in_ok-n.ensures in
+    let f = up_to c.args.stop (drop c.args.at c.args.text.now) in
     let k = up_fits c.args.stop
     c.args.text.now
     c.args.at
     c.requires.0 in
-    natural_zero f (omega (arith, r.ends, c.if-end-at.false, c.if-end-at-eq1.false)) (head_of
+    natural_zero f (omega (arith, r.ends, c.if-n-at.false, c.if-n-at-ne1.true)) (head_of
     c.args.stop
     c.args.text.now
     c.args.at (omega (
       arith,
       r.ends,
-      c.if-end-at.false,
-    )) (omega (arith, r.ends, c.if-end-at.false)) ∙ c.if-text-at-eq48.true)
+      c.if-n-at.false,
+    )) (omega (arith, r.ends, c.if-n-at.false)) ∙ c.if-text-at-eq48.true)
 
-pub returns-else-text-at-eq48 : goal.returns-else-text-at-eq48
-returns-else-text-at-eq48 c =
-    let r = subst (DigitsAre _ _) c.in-Plain.is
-    c.digits.ensures in
-    let f : List ℕ = up_to c.args.stop (drop
-    c.args.at
-    c.args.text.now) in
-    let k = up_fits c.args.stop
-    c.args.text.now
-    c.args.at
-    c.requires.0 in
-    natural_more f _ _ _ r (omega (arith, r.ends, c.if-end-at.false, c.if-end-at-eq1.false)) (λ e. c.if-text-at-eq48.false (sym
-    (head_of c.args.stop
-    c.args.text.now
-    c.args.at (omega (
-      arith,
-      r.ends,
-      c.if-end-at.false,
-    )) (omega (arith, r.ends, c.if-end-at.false))) ∙ e))
-
-pub returns-in-Malformed : goal.returns-in-Malformed
-returns-in-Malformed c =
-    let f : List ℕ = up_to c.args.stop (drop c.args.at
-    c.args.text.now) in
-    natural_broken f (subst (DigitsAre _ _) c.in-Malformed.is c.digits.ensures)
+pub returns : goal.returns
+returns c =
+    let r = c.in_ok-n.ensures in
+    let f = up_to c.args.stop (drop c.args.at c.args.text.now) in
+    let k = up_fits c.args.stop c.args.text.now c.args.at c.requires.0 in
+    elim c.else-n-at-ne1.branch [
+      | else-n-at-ne1-via-then-n-at-ne1+else-text-at-eq48 w ↦ natural_more f _ _ _ r (omega (arith, r.ends, c.if-n-at.false, w.if-n-at-ne1.true)) (λ e. w.if-text-at-eq48.false (sym
+          (head_of c.args.stop c.args.text.now c.args.at (omega (arith, r.ends, c.if-n-at.false)) (omega (arith, r.ends, c.if-n-at.false))) ∙ e))
+      | else-n-at-ne1-via-else-n-at-ne1 w ↦ natural_one f _ _ _ r (omega (arith, r.ends, w.if-n-at-ne1.false))
+    ]

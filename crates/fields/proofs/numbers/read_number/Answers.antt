@@ -1,28 +1,14 @@
-use Prim.Native.Nat.{◌+◌, ◌-◌, ℕ}
+use Prim.Native.Nat.{◌+◌, ℕ}
 use lib.ListN.{drop, get_or}
 use mathlib.Core.List.{◌∷◌}
 use mathlib.Core.Path.{◌∙◌, ◌≡◌, ap, subst, sym}
 use native.Mathlib.Omega.{arith}
 use Rattle.fields.specs.Numbers.{NumberIs}
 use Rattle.fields.specs.Positions.{up_to}
-use Rattle.fields.proofs.NumberLaws.{number_minus, number_plus, small_natural}
+use Rattle.fields.proofs.NumberLaws.{number_minus, number_plus}
 use Rattle.fields.proofs.Positions.{head_none, head_ne, up_more}
 use Rattle.fields.proofs.numbers.read_number.Goals as goal
-use Rattle.fields.proofs.numbers.read_number.Goals.{then-at-text+else-text-at-eq45, else-at-text}
-
-pub bounds-text-at : goal.bounds-text-at
-bounds-text-at c = omega arith
-
-pub overflow_add-at : goal.overflow_add-at
-overflow_add-at c = omega arith
-
-pub read_natural-requires : goal.read_natural-requires
-read_natural-requires c = (omega arith, omega (arith, c.requires.1))
-
-pub negative-requires : goal.negative-requires
-negative-requires c =
-    let a = c.args in
-    small_natural (up_to a.stop (drop (a.at + 1) a.text.now)) (a.at + 1) c.read_natural.result c.read_natural.ensures
+use Rattle.fields.proofs.numbers.read_number.Goals.{else-at-text-via-then-at-text+else-text-at-eq45, else-at-text-via-else-at-text}
 
 pub returns-then-text-at-eq45 : goal.returns-then-text-at-eq45
 returns-then-text-at-eq45 c =
@@ -33,19 +19,11 @@ returns-then-text-at-eq45 c =
     )) (λ e. omega (arith, c.if-text-at-eq45.true, c.requires.1)) ∙
     ap (λ (b : ℕ). b ∷ up_to a.stop (drop (a.at + 1) a.text.now)) c.if-text-at-eq45.true) _ c.read_natural.ensures)
 
-pub read_natural-requires-2 : goal.read_natural-requires-2
-read_natural-requires-2 c = (c.requires.0, omega (arith, c.requires.1))
-
-pub positive-requires : goal.positive-requires
-positive-requires c =
-    let a = c.args in
-    small_natural (up_to a.stop (drop a.at a.text.now)) a.at c.read_natural-2.result c.read_natural-2.ensures
-
 pub returns : goal.returns
 returns c =
     let a = c.args in
-    let q : get_or (up_to a.stop (drop a.at a.text.now)) 0 0 ≡ 45 → ⊥ = elim c.if-at-text.branch [
-      | then-at-text+else-text-at-eq45 w ↦ head_ne a.stop a.text.now a.at 45 w.if-at-text.true w.if-text-at-eq45.false (omega arith)
-      | else-at-text w ↦ head_none a.stop a.text.now a.at 45 w.if-at-text.false (omega arith)
+    let q : get_or (up_to a.stop (drop a.at a.text.now)) 0 0 ≡ 45 → ⊥ = elim c.else-at-text.branch [
+      | else-at-text-via-then-at-text+else-text-at-eq45 w ↦ head_ne a.stop a.text.now a.at 45 w.if-at-text.true w.if-text-at-eq45.false (omega arith)
+      | else-at-text-via-else-at-text w ↦ head_none a.stop a.text.now a.at 45 w.if-at-text.false (omega arith)
     ] in
     subst (NumberIs _ _) (sym c.positive.ensures) (number_plus _ _ q _ c.read_natural-2.ensures)

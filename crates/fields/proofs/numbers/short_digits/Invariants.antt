@@ -1,13 +1,8 @@
-use Prim.Native.Nat.{◌+◌, ◌-◌, ◌≤◌}
-use lib.ListN.{drop, length}
-use native.Mathlib.Omega.{arith}
+use Prim.Native.Nat.{◌+◌, ◌≤◌}
+use lib.ListN.{drop}
 use Rattle.fields.specs.Positions.{up_to}
-use Rattle.fields.proofs.NumberLaws.{Going, going_done, going_more, going_start}
-use Rattle.fields.proofs.Positions.{up_comma, up_more}
+use Rattle.fields.proofs.NumberLaws.{Going}
 use Rattle.fields.proofs.numbers.short_digits.Given as goal
 
 abbrev pub invariant-loop-i : goal.invariant-loop-i
-invariant-loop-i l = (l.at ≤ l.i) × (l.i ≤ l.at + 3) × (l.v ≤ 999) × (l.i ≤ l.at → l.v ≤ 0) × (l.i ≤ l.at + 1 → l.v ≤ 9) × (l.i ≤ l.at + 2 → l.v ≤ 99) × Going (up_to 44 (drop l.at l.text)) (up_to 44 (drop l.i l.text)) l.v l.at l.i
-
-abbrev pub decreases-loop-i : goal.decreases-loop-i
-decreases-loop-i l = l.at + 3 - l.i
+invariant-loop-i l = (l.v ≤ 999) × (l.i ≤ l.at → l.v ≤ 0) × (l.i ≤ l.at + 1 → l.v ≤ 9) × (l.i ≤ l.at + 2 → l.v ≤ 99) × Going (up_to 44 (drop l.at l.text)) (up_to 44 (drop l.i l.text)) l.v l.at l.i

@@ -1,15 +1,10 @@
-use borrow.Author.Rules.{rules}
-use Prim.Native.Nat.{◌≤◌}
-use lib.ListN.{drop, length}
+use lib.ListN.{drop}
 use mathlib.Core.Path.{subst, sym}
 use native.Mathlib.Omega.{arith}
 use Rattle.fields.specs.Numbers.{NumberTried}
 use Rattle.fields.specs.Positions.{up_to}
-use Rattle.fields.proofs.NumberLaws.{few_small, tried_plus}
+use Rattle.fields.proofs.NumberLaws.{tried_plus}
 use Rattle.fields.proofs.numbers.short_number.Goals as goal
-
-pub positive-requires : goal.positive-requires
-positive-requires c = few_small _ _ c.short_digits.result c.short_digits.ensures
 
 pub returns-in-49-to-57 : goal.returns-in-49-to-57
 returns-in-49-to-57 c =

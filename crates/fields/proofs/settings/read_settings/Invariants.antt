@@ -1,13 +1,6 @@
 use Prim.Native.Nat.{◌+◌, ◌*◌, ◌-◌, ◌≤◌}
-use lib.ListN.{get_or, length}
-use mathlib.Core.List.{[]}
-use mathlib.Core.Logic.{⊎_elim}
-use mathlib.Core.Path.{◌≡◌}
-use mir.Syntax.{w64}
-use mir.ValLaws.{to_z_pos}
-use native.Mathlib.Omega.{arith}
-use Rattle.fields.proofs.Positions.{up_comma, up_end}
-use Rattle.fields.proofs.SettingLaws.{Rowing, field_at, row_done, row_inside, row_last, row_next, row_other, row_outside, row_start}
+use lib.ListN.{length}
+use Rattle.fields.proofs.SettingLaws.{Rowing}
 use Rattle.fields.proofs.settings.read_settings.Given as goal
 
 abbrev pub invariant-loop-i : goal.invariant-loop-i

@@ -1,6 +1,4 @@
-use borrow.Author.Rules.{rules}
 use mathlib.Core.Path.{subst}
-use lib.ListN.{drop}
 use mir.Syntax.{w64}
 use mir.ValLaws.{to_z-of_z}
 use native.Mathlib.Omega.{arith}
@@ -16,18 +14,18 @@ use Rattle.fields.proofs.slots.quick_divisor.Goals as goal
 pub overflow_add-result : goal.overflow_add-result
 overflow_add-result c =
     let a = c.args in
-    let w = subst (NumberTried _ _) c.in-Is.is c.short_number.ensures in
+    let w = subst (NumberTried _ _) c.in-Some.is c.short_number.ensures in
     omega (arith, w.ends, up_fits 44 a.text.now a.at (omega arith))
 
 pub returns-else-a-lt1 : goal.returns-else-a-lt1
 returns-else-a-lt1 c =
     let a = c.args in
     let t = a.text.now in
-    let w = subst (NumberTried _ _) c.in-Is.is c.short_number.ensures in
-    let v = c.in-Is.a in
+    let w = subst (NumberTried _ _) c.in-Some.is c.short_number.ensures in
+    let v = c.in-Some.a.value in
     four_one t a.at divisor v _ (taken_at divisor t a.at _ _ (omega arith) (omega (arith, w.ends))
     (divisor_reads _ v w.small (test_high 1 v false (omega arith) (small_fits v w.small) c.if-a-lt1.false) w.is)) _ (to_z-of_z w64 v (small_fits v w.small))
 
-pub returns-in-Bad : goal.returns-in-Bad
+pub returns-in-None : goal.returns-in-None
 unfolding class_of
-returns-in-Bad c = are_tried _ _ _ c.read_one.result c.read_one.ensures
+returns-in-None c = are_tried _ _ _ c.read_one.result c.read_one.ensures

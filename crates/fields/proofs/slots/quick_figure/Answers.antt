@@ -1,6 +1,4 @@
-use borrow.Author.Rules.{rules}
 use mathlib.Core.Path.{subst}
-use lib.ListN.{drop}
 use mir.Syntax.{w64}
 use mir.ValLaws.{to_z-of_z}
 use native.Mathlib.Omega.{arith}
@@ -8,24 +6,19 @@ use Rattle.fields.specs.Numbers.{NumberTried}
 use Rattle.fields.proofs.FieldLaws.{four_one, taken_at}
 use Rattle.fields.proofs.Positions.{up_fits}
 use Rattle.language.specs.Text.Letters.{figure}
-use Rattle.fields.specs.Fields.{SlotsAre, SlotsTried}
 use Rattle.fields.proofs.ClassLaws.{figure_reads, small_fits}
-use Rattle.fields.proofs.FieldLaws.{are_tried}
 use Rattle.fields.proofs.slots.quick_figure.Goals as goal
 
 pub overflow_add-result : goal.overflow_add-result
 overflow_add-result c =
     let a = c.args in
-    let w = subst (NumberTried _ _) c.in-Is.is c.short_number.ensures in
+    let w = subst (NumberTried _ _) c.in-Some.is c.short_number.ensures in
     omega (arith, w.ends, up_fits 44 a.text.now a.at (omega arith))
 
-pub returns-in-Is : goal.returns-in-Is
-returns-in-Is c =
+pub returns-in-Some : goal.returns-in-Some
+returns-in-Some c =
     let a = c.args in
     let t = a.text.now in
-    let w = subst (NumberTried _ _) c.in-Is.is c.short_number.ensures in
-    let v = c.in-Is.a in
+    let w = subst (NumberTried _ _) c.in-Some.is c.short_number.ensures in
+    let v = c.in-Some.a.value in
     four_one t a.at figure v _ (taken_at figure t a.at _ _ (omega arith) (omega (arith, w.ends)) (figure_reads _ v w.small w.is)) _ (to_z-of_z w64 v (small_fits v w.small))
-
-pub returns-in-Bad : goal.returns-in-Bad
-returns-in-Bad c = are_tried _ _ _ c.read_figure.result c.read_figure.ensures

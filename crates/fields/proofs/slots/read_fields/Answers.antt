@@ -1,28 +1,25 @@
-use Prim.Native.Nat.{◌-◌}
 use mathlib.Core.List.{List}
-use mathlib.Core.Path.{subst, sym}
+use mathlib.Core.Path.{◌∙◌, ap, subst, sym}
 use Rattle.language.specs.Text.Letters.{Class}
-use Rattle.fields.specs.Fields.{SlotsAre}
+use Rattle.fields.specs.declared.field.Class as coded
+use Rattle.fields.specs.Fields.{SlotsAre, classes_of_three}
 use Rattle.fields.proofs.FieldLaws.{four_none, three_field, three_month}
-use borrow.Author.Rules.{rules}
+use Rattle.std.proofs.Common.{Option}
 use Rattle.fields.proofs.slots.read_fields.Goals as goal
 
-pub returns-then-first-eq-NONE : goal.returns-then-first-eq-NONE
-returns-then-first-eq-NONE c =
+pub returns-in_default : goal.returns-in_default
+returns-in_default c =
     let a = c.args in
-    let t = a.text.now in
-    four_none t a.at a.first a.second a.third c.if-first-eq-NONE.true c.requires
+    four_none a.text.now a.at a.first a.second a.third c.in_default.is c.requires
 
-pub returns-then-first-eq-MONTH : goal.returns-then-first-eq-MONTH
-returns-then-first-eq-MONTH c =
+pub returns-in-Month : goal.returns-in-Month
+returns-in-Month c =
     let a = c.args in
-    let t = a.text.now in
-    subst (λ (ks : List Class). SlotsAre ks t a.at c.after_month.result) (sym (three_month t a.at a.first a.second a.third
-    c.if-first-eq-MONTH.true)) c.after_month.ensures
+    subst (λ (ks : List Class). SlotsAre ks a.text.now a.at c.after_month.result)
+    (sym (ap (λ (f : Option coded.Class). classes_of_three f a.second a.third) c.in-Some.is ∙ three_month a.text.now a.at c.in-Some.class a.second a.third c.in-Month.is)) c.after_month.ensures
 
 pub returns : goal.returns
 returns c =
     let a = c.args in
-    let t = a.text.now in
-    subst (λ (ks : List Class). SlotsAre ks t a.at c.after_field.result) (sym (three_field t a.at a.first a.second a.third
-    c.if-first-eq-NONE.false c.if-first-eq-MONTH.false)) c.after_field.ensures
+    subst (λ (ks : List Class). SlotsAre ks a.text.now a.at c.after_field.result)
+    (sym (ap (λ (f : Option coded.Class). classes_of_three f a.second a.third) c.in-Some.is ∙ three_field a.text.now a.at c.in-Some.class a.second a.third c.in_default-class.not-Month)) c.after_field.ensures

@@ -1,20 +1,11 @@
-use mathlib.Core.Path.{subst}
 use mir.Syntax.{w64}
 use mir.ValLaws.{to_z-of_z}
 use native.Mathlib.Omega.{arith}
-use Rattle.fields.specs.Fields.{TakenIs}
 use Rattle.fields.proofs.FieldLaws.{bad_first, four_one}
-use borrow.Author.Rules.{rules}
 use Rattle.fields.proofs.slots.read_one.Goals as goal
 
-pub returns-in-Value : goal.returns-in-Value
-returns-in-Value c =
-    let a = c.args in
-    let t = a.text.now in
-    four_one t a.at _ _ _ (subst (TakenIs _ _ _) c.in-Value.is c.read_field.ensures) _ (to_z-of_z w64 c.in-Value.a (record { sfits = omega arith }))
+pub returns-in_err-a : goal.returns-in_err-a
+returns-in_err-a c = rw c.from_residual.ensures (bad_first c.args.text.now c.args.at _ _ c.in_err-a.ensures)
 
-pub returns-in-Wrong : goal.returns-in-Wrong
-returns-in-Wrong c =
-    let a = c.args in
-    let t = a.text.now in
-    bad_first t a.at _ _ (subst (TakenIs _ _ _) c.in-Wrong.is c.read_field.ensures)
+pub returns : goal.returns
+returns c = four_one c.args.text.now c.args.at _ _ _ c.in_ok-a.ensures _ (to_z-of_z w64 c.in_ok-a.a.value (record { sfits = omega arith }))

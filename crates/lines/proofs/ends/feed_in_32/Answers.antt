@@ -1,9 +1,5 @@
-use Prim.Native.Nat.{◌+◌, ◌-◌, ◌≤◌}
-use mathlib.Core.Bool.{false}
-use mathlib.Core.Path.{◌≡◌}
 use native.Mathlib.Omega.{arith}
 use Rattle.lines.proofs.LineLaws.{or_none}
-use Rattle.lines.specs.Lines.{NoFeed}
 use Rattle.lines.proofs.ends.feed_in_32.Goals as goal
 
 -- `ends::feed_in_32` meets its contract. The invariant: where nothing is found yet, no line feed stands among the first k.
@@ -16,12 +12,6 @@ overflow_add-found c = omega (arith, c.requires)
 
 pub bounds-input-at : goal.bounds-input-at
 bounds-input-at c = omega (arith, c.requires)
-
-pub overflow_add-k : goal.overflow_add-k
-overflow_add-k c = omega arith
-
-pub loop-k-smaller : goal.loop-k-smaller
-loop-k-smaller c = omega arith
 
 pub loop-k-preserved : goal.loop-k-preserved
 loop-k-preserved c =

@@ -1,9 +1,7 @@
-use Prim.Native.Nat.{◌-◌}
 use lib.ListN.{length}
 use mathlib.Core.Path.{ap}
 use native.Mathlib.Omega.{arith}
 use Rattle.lines.proofs.LineLaws.{line_goes_on, line_stops, no_line}
-use Rattle.lines.specs.Lines.{LineFrom}
 use Rattle.lines.proofs.ends.line_end.Goals as goal
 
 -- `ends::line_end` meets its contract.
@@ -14,18 +12,9 @@ passed-i-requires c = c.requires
 pub loop-i-init : goal.loop-i-init
 loop-i-init c = c.passed-i.ensures
 
-pub bounds-input-i : goal.bounds-input-i
-bounds-input-i c = omega (arith, c.loop-i-test.true)
-
 pub returns-then-input-i-eq10 : goal.returns-then-input-i-eq10
 returns-then-input-i-eq10 c =
     omega (arith, c.loop-i.invariant.ends, ap length (line_stops c.args.input.now c.loop-i.i c.loop-i-test.true c.if-input-i-eq10.true))
-
-pub overflow_add-i : goal.overflow_add-i
-overflow_add-i c = omega (arith, c.loop-i-test.true)
-
-pub loop-i-smaller : goal.loop-i-smaller
-loop-i-smaller c = omega (arith, c.loop-i-test.true)
 
 pub loop-i-preserved : goal.loop-i-preserved
 loop-i-preserved c =

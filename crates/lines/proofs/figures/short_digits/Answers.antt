@@ -1,6 +1,5 @@
-use Prim.Native.Nat.{◌-◌}
 use native.Mathlib.Omega.{arith}
-use Rattle.fields.proofs.FewDigits.{Few, few_done, few_more, few_none, few_small}
+use Rattle.fields.proofs.FewDigits.{few_done, few_more, few_none, few_small}
 use Rattle.lines.proofs.figures.short_digits.Goals as goal
 
 pub loop-k-init : goal.loop-k-init
@@ -32,12 +31,6 @@ overflow_add-result c = omega (arith, c.requires)
 
 pub returns-in_default : goal.returns-in_default
 returns-in_default c = tt
-
-pub overflow_add-k : goal.overflow_add-k
-overflow_add-k c = omega arith
-
-pub loop-k-smaller : goal.loop-k-smaller
-loop-k-smaller c = omega arith
 
 pub returns : goal.returns
 returns c = tt

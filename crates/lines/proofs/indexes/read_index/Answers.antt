@@ -23,57 +23,57 @@ overflow_cast-label c =
 
 pub read_numbers-read-requires : goal.read_numbers-read-requires
 read_numbers-read-requires c =
-    let t = subst (TwoAre c.args.line.now 6) c.in-Are.is c.two_numbers-two.ensures in
+    let t = subst (TwoAre c.args.line.now 6) c.in-Some.is c.two_numbers-two.ensures in
     (t.inside, c.requires.2, c.requires.0)
 
 pub overflow_cast-n : goal.overflow_cast-n
 overflow_cast-n c =
-    let r = subst (NumbersAre c.args.line.now c.in-Are.next c.args.values.now c.read_numbers-read.new.into c.args.from) c.in-Count.is c.read_numbers-read.ensures in
+    let r = subst (NumbersAre c.args.line.now c.in-Some.two.next c.args.values.now c.read_numbers-read.new.into c.args.from) c.in-Some-read.is c.read_numbers-read.ensures in
     sfits64 60001 (omega (arith, r.bounded, c.requires.0)) tt
 
 pub returns-then-months-n : goal.returns-then-months-n
 returns-then-months-n c =
-    let t = subst (TwoAre c.args.line.now 6) c.in-Are.is c.two_numbers-two.ensures in
-    let fa : SFits w64 c.in-Are.first = search rules in
+    let t = subst (TwoAre c.args.line.now 6) c.in-Some.is c.two_numbers-two.ensures in
+    let fa : SFits w64 c.in-Some.two.first = search rules in
     let fl : SFits w64 (pos c.args.label) = sfits64 60001 c.requires.1 tt in
-    let r = subst (NumbersAre c.args.line.now c.in-Are.next c.args.values.now c.read_numbers-read.new.into c.args.from) c.in-Count.is c.read_numbers-read.ensures in
+    let r = subst (NumbersAre c.args.line.now c.in-Some.two.next c.args.values.now c.read_numbers-read.new.into c.args.from) c.in-Some-read.is c.read_numbers-read.ensures in
     let fm : SFits w64 c.args.months.0 = search rules in
-    let fn : SFits w64 (pos c.in-Count.n) = sfits64 60001 (omega (arith, r.bounded, c.requires.0)) tt in
-    let fb : SFits w64 c.in-Are.second = search rules in
-    index_is _ _ _ (sym c.if-fits.true ∙ c.has_word-fits.ensures) t r (equal_bits fa fl c.if-first-label.true) c.if-n-gt0.true (equal_bits fm fn c.if-months-n.true) (to_z-of_z fb)
+    let fn : SFits w64 (pos c.in-Some-read.n) = sfits64 60001 (omega (arith, r.bounded, c.requires.0)) tt in
+    let fb : SFits w64 c.in-Some.two.second = search rules in
+    index_is _ _ _ (sym c.if-fits.true ∙ c.has_word-fits.ensures) t r (equal_bits fa fl c.if-two-label.true) c.if-n-gt0.true (equal_bits fm fn c.if-months-n.true) (to_z-of_z fb)
 
 pub returns-else-months-n : goal.returns-else-months-n
 returns-else-months-n c =
-    let t = subst (TwoAre c.args.line.now 6) c.in-Are.is c.two_numbers-two.ensures in
-    let fa : SFits w64 c.in-Are.first = search rules in
+    let t = subst (TwoAre c.args.line.now 6) c.in-Some.is c.two_numbers-two.ensures in
+    let fa : SFits w64 c.in-Some.two.first = search rules in
     let fl : SFits w64 (pos c.args.label) = sfits64 60001 c.requires.1 tt in
-    let r = subst (NumbersAre c.args.line.now c.in-Are.next c.args.values.now c.read_numbers-read.new.into c.args.from) c.in-Count.is c.read_numbers-read.ensures in
+    let r = subst (NumbersAre c.args.line.now c.in-Some.two.next c.args.values.now c.read_numbers-read.new.into c.args.from) c.in-Some-read.is c.read_numbers-read.ensures in
     let fm : SFits w64 c.args.months.0 = search rules in
-    let fn : SFits w64 (pos c.in-Count.n) = sfits64 60001 (omega (arith, r.bounded, c.requires.0)) tt in
+    let fn : SFits w64 (pos c.in-Some-read.n) = sfits64 60001 (omega (arith, r.bounded, c.requires.0)) tt in
     other_count _ _ _ (sym c.if-fits.true ∙ c.has_word-fits.ensures) t r (other_bits fm fn c.if-months-n.false)
 
 pub returns-else-n-gt0 : goal.returns-else-n-gt0
 returns-else-n-gt0 c =
-    let t = subst (TwoAre c.args.line.now 6) c.in-Are.is c.two_numbers-two.ensures in
-    let r = subst (NumbersAre c.args.line.now c.in-Are.next c.args.values.now c.read_numbers-read.new.into c.args.from) c.in-Count.is c.read_numbers-read.ensures in
+    let t = subst (TwoAre c.args.line.now 6) c.in-Some.is c.two_numbers-two.ensures in
+    let r = subst (NumbersAre c.args.line.now c.in-Some.two.next c.args.values.now c.read_numbers-read.new.into c.args.from) c.in-Some-read.is c.read_numbers-read.ensures in
     no_values _ _ _ (sym c.if-fits.true ∙ c.has_word-fits.ensures) t r (omega (arith, c.if-n-gt0.false))
 
-pub returns-in-Fault-read : goal.returns-in-Fault-read
-returns-in-Fault-read c =
-    let t = subst (TwoAre c.args.line.now 6) c.in-Are.is c.two_numbers-two.ensures in
-    let r = subst (NumbersAre c.args.line.now c.in-Are.next c.args.values.now c.read_numbers-read.new.into c.args.from) c.in-Fault-read.is c.read_numbers-read.ensures in
+pub returns-in-None-read : goal.returns-in-None-read
+returns-in-None-read c =
+    let t = subst (TwoAre c.args.line.now 6) c.in-Some.is c.two_numbers-two.ensures in
+    let r = subst (NumbersAre c.args.line.now c.in-Some.two.next c.args.values.now c.read_numbers-read.new.into c.args.from) c.in-None-read.is c.read_numbers-read.ensures in
     bad_values _ _ _ (sym c.if-fits.true ∙ c.has_word-fits.ensures) t r
 
-pub returns-else-first-label : goal.returns-else-first-label
-returns-else-first-label c =
-    let t = subst (TwoAre c.args.line.now 6) c.in-Are.is c.two_numbers-two.ensures in
-    let fa : SFits w64 c.in-Are.first = search rules in
+pub returns-else-two-label : goal.returns-else-two-label
+returns-else-two-label c =
+    let t = subst (TwoAre c.args.line.now 6) c.in-Some.is c.two_numbers-two.ensures in
+    let fa : SFits w64 c.in-Some.two.first = search rules in
     let fl : SFits w64 (pos c.args.label) = sfits64 60001 c.requires.1 tt in
-    other_label _ _ _ (sym c.if-fits.true ∙ c.has_word-fits.ensures) t (other_bits fa fl c.if-first-label.false)
+    other_label _ _ _ (sym c.if-fits.true ∙ c.has_word-fits.ensures) t (other_bits fa fl c.if-two-label.false)
 
-pub returns-in-Fault : goal.returns-in-Fault
-returns-in-Fault c =
-    no_bound _ _ _ (sym c.if-fits.true ∙ c.has_word-fits.ensures) (subst (TwoAre c.args.line.now 6) c.in-Fault.is c.two_numbers-two.ensures)
+pub returns-in-None : goal.returns-in-None
+returns-in-None c =
+    no_bound _ _ _ (sym c.if-fits.true ∙ c.has_word-fits.ensures) (subst (TwoAre c.args.line.now 6) c.in-None.is c.two_numbers-two.ensures)
 
 pub returns-else-fits : goal.returns-else-fits
 returns-else-fits c =

@@ -58,7 +58,7 @@ overflow_add-stored c =
     let l = c.loop-place in
     let i : l.place ≤ length c.args.input.now = omega (arith, c.loop-place-test.true) in
     let k = line_is c.args.input.now l.place i c.line_end-end.ensures c.loop-place-test.true in
-    let x = subst (IndexIs (take (c.line_end-end.result - l.place) (drop l.place c.args.input.now)) l.labels c.args.months.0 l.values c.read_index-index.new.values l.stored) c.in-Is.is c.read_index-index.ensures in
+    let x = subst (IndexIs (take (c.line_end-end.result - l.place) (drop l.place c.args.input.now)) l.labels c.args.months.0 l.values c.read_index-index.new.values l.stored) c.in-Some.is c.read_index-index.ensures in
     let z : length c.read_index-index.new.values ≡ length l.values = search rules in
     let f : l.place + length (take (c.line_end-end.result - l.place) (drop l.place c.args.input.now)) < c.line_end-end.result + 1 = omega (arith, ap length (line_bytes c.args.input.now l.place i c.line_end-end.ensures), c.line_end-end.ensures) in
     record { fits = omega (arith, l.invariant.fewer, x.bounded, f, line_inside c.args.input.now l.place i c.line_end-end.ensures, c.requires.1) }
@@ -80,29 +80,29 @@ loop-place-preserved c =
     let l = c.loop-place in
     let i : l.place ≤ length c.args.input.now = omega (arith, c.loop-place-test.true) in
     let k = line_is c.args.input.now l.place i c.line_end-end.ensures c.loop-place-test.true in
-    let x = subst (IndexIs (take (c.line_end-end.result - l.place) (drop l.place c.args.input.now)) l.labels c.args.months.0 l.values c.read_index-index.new.values l.stored) c.in-Is.is c.read_index-index.ensures in
+    let x = subst (IndexIs (take (c.line_end-end.result - l.place) (drop l.place c.args.input.now)) l.labels c.args.months.0 l.values c.read_index-index.new.values l.stored) c.in-Some.is c.read_index-index.ensures in
     let z : length c.read_index-index.new.values ≡ length l.values = search rules in
     let f : l.place + length (take (c.line_end-end.result - l.place) (drop l.place c.args.input.now)) < c.line_end-end.result + 1 = omega (arith, ap length (line_bytes c.args.input.now l.place i c.line_end-end.ensures), c.line_end-end.ensures) in
-    let g : SFits w64 c.in-Is.bound = search rules in
+    let g : SFits w64 c.in-Some.index.bound = search rules in
     elim c.if-labels-bounds.branch [
-      | then-labels-bounds w ↦ subst (λ b. Indexed c.args.input.now c.args.at c.args.months.0 c.args.bounds.now c.args.values.now b c.read_index-index.new.values (c.line_end-end.result + 1) (l.labels + 1) (l.stored + c.in-Is.count)) (sym w.bounds-is) (indexed_kept l.invariant k x z f (to_z-of_z g) w.if-labels-bounds.true)
-      | else-labels-bounds w ↦ subst (λ b. Indexed c.args.input.now c.args.at c.args.months.0 c.args.bounds.now c.args.values.now b c.read_index-index.new.values (c.line_end-end.result + 1) (l.labels + 1) (l.stored + c.in-Is.count)) (sym w.bounds-is) (indexed_full l.invariant k x z f (omega (arith, w.if-labels-bounds.false)))
+      | then-labels-bounds w ↦ subst (λ b. Indexed c.args.input.now c.args.at c.args.months.0 c.args.bounds.now c.args.values.now b c.read_index-index.new.values (c.line_end-end.result + 1) (l.labels + 1) (l.stored + c.in-Some.index.count)) (sym w.bounds-is) (indexed_kept l.invariant k x z f (to_z-of_z g) w.if-labels-bounds.true)
+      | else-labels-bounds w ↦ subst (λ b. Indexed c.args.input.now c.args.at c.args.months.0 c.args.bounds.now c.args.values.now b c.read_index-index.new.values (c.line_end-end.result + 1) (l.labels + 1) (l.stored + c.in-Some.index.count)) (sym w.bounds-is) (indexed_full l.invariant k x z f (omega (arith, w.if-labels-bounds.false)))
     ]
 
-pub shape_of-bounds-in-Fault : goal.shape_of-bounds-in-Fault
-shape_of-bounds-in-Fault c = c.loop-place.invariant.size_b
+pub shape_of-bounds-in-None : goal.shape_of-bounds-in-None
+shape_of-bounds-in-None c = c.loop-place.invariant.size_b
 
-pub shape_of-values-in-Fault : goal.shape_of-values-in-Fault
-shape_of-values-in-Fault c =
+pub shape_of-values-in-None : goal.shape_of-values-in-None
+shape_of-values-in-None c =
     let z : length c.read_index-index.new.values ≡ length c.loop-place.values = search rules in
     z ∙ c.loop-place.invariant.size_v
 
-pub returns-in-Fault : goal.returns-in-Fault
-returns-in-Fault c =
+pub returns-in-None : goal.returns-in-None
+returns-in-None c =
     let l = c.loop-place in
     let i : l.place ≤ length c.args.input.now = omega (arith, c.loop-place-test.true) in
     let k = line_is c.args.input.now l.place i c.line_end-end.ensures c.loop-place-test.true in
-    indexed_refused l.invariant k (subst (IndexIs (take (c.line_end-end.result - l.place) (drop l.place c.args.input.now)) l.labels c.args.months.0 l.values c.read_index-index.new.values l.stored) c.in-Fault.is c.read_index-index.ensures)
+    indexed_refused l.invariant k (subst (IndexIs (take (c.line_end-end.result - l.place) (drop l.place c.args.input.now)) l.labels c.args.months.0 l.values c.read_index-index.new.values l.stored) c.in-None.is c.read_index-index.ensures)
 
 pub shape_of-bounds : goal.shape_of-bounds
 shape_of-bounds c = c.loop-place.invariant.size_b

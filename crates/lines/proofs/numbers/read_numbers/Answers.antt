@@ -37,32 +37,32 @@ overflow_add-count c =
 pub overflow_add-place : goal.overflow_add-place
 overflow_add-place c =
     let p : c.loop-place.place ≤ length c.args.line.now = omega (arith, c.loop-place-test.true) in
-    let s = subst (NumberIs (up_to 44 (drop c.loop-place.place c.args.line.now)) c.loop-place.place) c.in-Is.is c.figure-number.ensures in
+    let s = subst (NumberIs (up_to 44 (drop c.loop-place.place c.args.line.now)) c.loop-place.place) c.in-Some.is c.figure-number.ensures in
     record { fits = omega (arith, (number_inside _ _ p s).1, c.requires.2) }
 
 pub loop-place-smaller : goal.loop-place-smaller
 loop-place-smaller c =
     let p : c.loop-place.place ≤ length c.args.line.now = omega (arith, c.loop-place-test.true) in
-    let s = subst (NumberIs (up_to 44 (drop c.loop-place.place c.args.line.now)) c.loop-place.place) c.in-Is.is c.figure-number.ensures in
+    let s = subst (NumberIs (up_to 44 (drop c.loop-place.place c.args.line.now)) c.loop-place.place) c.in-Some.is c.figure-number.ensures in
     omega (arith, (number_inside _ _ p s).0, (number_inside _ _ p s).1)
 
 pub loop-place-preserved : goal.loop-place-preserved
 loop-place-preserved c =
     let p : c.loop-place.place ≤ length c.args.line.now = omega (arith, c.loop-place-test.true) in
-    let s = subst (NumberIs (up_to 44 (drop c.loop-place.place c.args.line.now)) c.loop-place.place) c.in-Is.is c.figure-number.ensures in
-    let f : SFits w64 c.in-Is.value = search rules in
+    let s = subst (NumberIs (up_to 44 (drop c.loop-place.place c.args.line.now)) c.loop-place.place) c.in-Some.is c.figure-number.ensures in
+    let f : SFits w64 c.in-Some.n.value = search rules in
     elim c.if-k-into.branch [
-      | then-k-into w ↦ subst (λ x. Going c.args.line.now c.args.at c.args.into.now c.args.from x (c.in-Is.end + 1) (c.loop-place.count + 1)) (sym w.into-is) (going_kept c.loop-place.invariant p s (to_z-of_z f) w.if-k-into.true)
-      | else-k-into w ↦ subst (λ x. Going c.args.line.now c.args.at c.args.into.now c.args.from x (c.in-Is.end + 1) (c.loop-place.count + 1)) (sym w.into-is) (going_full c.loop-place.invariant p s (omega (arith, w.if-k-into.false)))
+      | then-k-into w ↦ subst (λ x. Going c.args.line.now c.args.at c.args.into.now c.args.from x (c.in-Some.n.end + 1) (c.loop-place.count + 1)) (sym w.into-is) (going_kept c.loop-place.invariant p s (to_z-of_z f) w.if-k-into.true)
+      | else-k-into w ↦ subst (λ x. Going c.args.line.now c.args.at c.args.into.now c.args.from x (c.in-Some.n.end + 1) (c.loop-place.count + 1)) (sym w.into-is) (going_full c.loop-place.invariant p s (omega (arith, w.if-k-into.false)))
     ]
 
-pub shape_of-into-in-Bad : goal.shape_of-into-in-Bad
-shape_of-into-in-Bad c = c.loop-place.invariant.size
+pub shape_of-into-in-None : goal.shape_of-into-in-None
+shape_of-into-in-None c = c.loop-place.invariant.size
 
-pub returns-in-Bad : goal.returns-in-Bad
-returns-in-Bad c =
+pub returns-in-None : goal.returns-in-None
+returns-in-None c =
     let p : c.loop-place.place ≤ length c.args.line.now = omega (arith, c.loop-place-test.true) in
-    going_bad c.loop-place.invariant (number_bad _ _ p (subst (NumberIs (up_to 44 (drop c.loop-place.place c.args.line.now)) c.loop-place.place) c.in-Bad.is c.figure-number.ensures))
+    going_bad c.loop-place.invariant (number_bad _ _ p (subst (NumberIs (up_to 44 (drop c.loop-place.place c.args.line.now)) c.loop-place.place) c.in-None.is c.figure-number.ensures))
 
 pub shape_of-into : goal.shape_of-into
 shape_of-into c = c.loop-place.invariant.size

@@ -46,21 +46,21 @@ overflow_add-result c =
     let b = line_inside c.args.input.now c.args.at m c.line_end-end.ensures in
     record { fits = omega (arith, b, c.requires.1) }
 
-pub returns-in-Count : goal.returns-in-Count
-returns-in-Count c =
+pub returns-in-Some : goal.returns-in-Some
+returns-in-Some c =
     let l : c.args.at < length c.args.input.now = omega (arith, c.if-input-at.false) in
     let m : c.args.at ≤ length c.args.input.now = omega arith in
     let b = line_inside c.args.input.now c.args.at m c.line_end-end.ensures in
     let k = line_is c.args.input.now c.args.at m c.line_end-end.ensures l in
-    listed c.args.word.now k (sym c.if-fits.true ∙ c.has_word-fits.ensures) (subst (NumbersAre (take (c.line_end-end.result - c.args.at) (drop c.args.at c.args.input.now)) (length c.args.word.now + 1) c.args.into.now c.read_numbers-read.new.into 0) c.in-Count.is c.read_numbers-read.ensures)
+    listed c.args.word.now k (sym c.if-fits.true ∙ c.has_word-fits.ensures) (subst (NumbersAre (take (c.line_end-end.result - c.args.at) (drop c.args.at c.args.input.now)) (length c.args.word.now + 1) c.args.into.now c.read_numbers-read.new.into 0) c.in-Some.is c.read_numbers-read.ensures)
 
-pub returns-in-Fault : goal.returns-in-Fault
-returns-in-Fault c =
+pub returns-in-None : goal.returns-in-None
+returns-in-None c =
     let l : c.args.at < length c.args.input.now = omega (arith, c.if-input-at.false) in
     let m : c.args.at ≤ length c.args.input.now = omega arith in
     let b = line_inside c.args.input.now c.args.at m c.line_end-end.ensures in
     let k = line_is c.args.input.now c.args.at m c.line_end-end.ensures l in
-    listed_bad c.args.word.now k (sym c.if-fits.true ∙ c.has_word-fits.ensures) (subst (NumbersAre (take (c.line_end-end.result - c.args.at) (drop c.args.at c.args.input.now)) (length c.args.word.now + 1) c.args.into.now c.read_numbers-read.new.into 0) c.in-Fault.is c.read_numbers-read.ensures)
+    listed_bad c.args.word.now k (sym c.if-fits.true ∙ c.has_word-fits.ensures) (subst (NumbersAre (take (c.line_end-end.result - c.args.at) (drop c.args.at c.args.input.now)) (length c.args.word.now + 1) c.args.into.now c.read_numbers-read.new.into 0) c.in-None.is c.read_numbers-read.ensures)
 
 pub returns-else-fits : goal.returns-else-fits
 returns-else-fits c =

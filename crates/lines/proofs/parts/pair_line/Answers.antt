@@ -51,31 +51,31 @@ overflow_add-result c =
     let b = line_inside c.args.input.now c.args.at m c.line_end-end.ensures in
     record { fits = omega (arith, b, c.requires.1) }
 
-pub returns-then-next-line : goal.returns-then-next-line
-returns-then-next-line c =
+pub returns-then-two-line : goal.returns-then-two-line
+returns-then-two-line c =
     let l : c.args.at < length c.args.input.now = omega (arith, c.if-input-at.false) in
     let m : c.args.at ≤ length c.args.input.now = omega arith in
     let b = line_inside c.args.input.now c.args.at m c.line_end-end.ensures in
     let k = line_is c.args.input.now c.args.at m c.line_end-end.ensures l in
-    paired_bad c.args.word.now k (sym c.if-fits.true ∙ c.has_word-fits.ensures) (too_many _ _ (subst (TwoAre (take (c.line_end-end.result - c.args.at) (drop c.args.at c.args.input.now)) (length c.args.word.now + 1)) c.in-Are.is c.two_numbers-two.ensures) c.if-next-line.true)
+    paired_bad c.args.word.now k (sym c.if-fits.true ∙ c.has_word-fits.ensures) (too_many _ _ (subst (TwoAre (take (c.line_end-end.result - c.args.at) (drop c.args.at c.args.input.now)) (length c.args.word.now + 1)) c.in-Some.is c.two_numbers-two.ensures) c.if-two-line.true)
 
-pub returns-else-next-line : goal.returns-else-next-line
-returns-else-next-line c =
+pub returns-else-two-line : goal.returns-else-two-line
+returns-else-two-line c =
     let l : c.args.at < length c.args.input.now = omega (arith, c.if-input-at.false) in
     let m : c.args.at ≤ length c.args.input.now = omega arith in
     let b = line_inside c.args.input.now c.args.at m c.line_end-end.ensures in
     let k = line_is c.args.input.now c.args.at m c.line_end-end.ensures l in
-    let f : SFits w64 c.in-Are.first = search rules in
-    let g : SFits w64 c.in-Are.second = search rules in
-    paired c.args.word.now k (sym c.if-fits.true ∙ c.has_word-fits.ensures) (subst (TwoAre (take (c.line_end-end.result - c.args.at) (drop c.args.at c.args.input.now)) (length c.args.word.now + 1)) c.in-Are.is c.two_numbers-two.ensures) (omega (arith, c.if-next-line.false)) (to_z-of_z f) (to_z-of_z g)
+    let f : SFits w64 c.in-Some.two.first = search rules in
+    let g : SFits w64 c.in-Some.two.second = search rules in
+    paired c.args.word.now k (sym c.if-fits.true ∙ c.has_word-fits.ensures) (subst (TwoAre (take (c.line_end-end.result - c.args.at) (drop c.args.at c.args.input.now)) (length c.args.word.now + 1)) c.in-Some.is c.two_numbers-two.ensures) (omega (arith, c.if-two-line.false)) (to_z-of_z f) (to_z-of_z g)
 
-pub returns-in-Fault : goal.returns-in-Fault
-returns-in-Fault c =
+pub returns-in-None : goal.returns-in-None
+returns-in-None c =
     let l : c.args.at < length c.args.input.now = omega (arith, c.if-input-at.false) in
     let m : c.args.at ≤ length c.args.input.now = omega arith in
     let b = line_inside c.args.input.now c.args.at m c.line_end-end.ensures in
     let k = line_is c.args.input.now c.args.at m c.line_end-end.ensures l in
-    paired_bad c.args.word.now k (sym c.if-fits.true ∙ c.has_word-fits.ensures) (too_few _ _ (subst (TwoAre (take (c.line_end-end.result - c.args.at) (drop c.args.at c.args.input.now)) (length c.args.word.now + 1)) c.in-Fault.is c.two_numbers-two.ensures))
+    paired_bad c.args.word.now k (sym c.if-fits.true ∙ c.has_word-fits.ensures) (too_few _ _ (subst (TwoAre (take (c.line_end-end.result - c.args.at) (drop c.args.at c.args.input.now)) (length c.args.word.now + 1)) c.in-None.is c.two_numbers-two.ensures))
 
 pub returns-else-fits : goal.returns-else-fits
 returns-else-fits c =

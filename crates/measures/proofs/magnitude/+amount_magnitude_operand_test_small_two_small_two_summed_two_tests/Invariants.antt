@@ -1,13 +1,4 @@
-use Prim.Native.Nat.{◌*◌, ◌+◌, ◌<◌, ℕ}
-use Rattle.measures.proofs.AmountMagnitudes as laws
-use Rattle.measures.proofs.Amounts as amounts
-use Rattle.measures.specs.Magnitudes.{joined}
-use borrow.Author.Rules.{rules}
-use mathlib.Core.Bool.{◌&&◌}
-use mathlib.Core.Path.{◌∙◌, ap₂, refl}
-use mir.Syntax.{w64}
-use mir.Val.{SFits}
-use native.Mathlib.Omega.{arith}
+use Prim.Native.Nat.{◌*◌, ◌+◌}
 use Rattle.measures.proofs.magnitude.+amount_magnitude_operand_test_small_two_small_two_summed_two_tests.Given as goal
 
 abbrev pub decreases-amount_magnitude : goal.decreases-amount_magnitude

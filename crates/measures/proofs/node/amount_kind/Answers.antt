@@ -1,4 +1,4 @@
-use Rattle.measures.proofs.Fields.{field_reads}
+use Rattle.nodes.proofs.Fields.{field_reads}
 use Rattle.nodes.specs.Letters.{letter_of_amount}
 use borrow.Author.Rules.{rules}
 use mathlib.Core.Path.{◌∙◌, ap}

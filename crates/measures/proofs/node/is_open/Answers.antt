@@ -1,4 +1,4 @@
-use Rattle.measures.proofs.Fields.{field_reads}
+use Rattle.nodes.proofs.Fields.{field_reads}
 use borrow.Author.Rules.{rules}
 use lib.IntN.{pos}
 use lib.Signed.{lt_z}

@@ -1,4 +1,4 @@
-use Rattle.measures.proofs.Fields.{field_below, field_cast, field_index}
+use Rattle.nodes.proofs.Fields.{field_below, field_cast, field_index}
 use borrow.Author.Rules.{rules}
 use mir.Syntax.{w64}
 use mir.Val.{SFits}

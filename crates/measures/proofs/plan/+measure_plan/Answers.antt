@@ -5,12 +5,10 @@ use Rattle.measures.proofs.PlanRows as rows
 use Rattle.measures.proofs.Plans as plans
 use Rattle.measures.specs.Magnitudes.{bound_in}
 use Rattle.measures.specs.Ready.{PlanReady}
-use borrow.Author.Rules.{rules}
 use lib.IntN.{pos}
 use mathlib.Core.List.{[]}
 use mathlib.Core.Path.{◌∙◌, ap, refl, sym}
 use native.Mathlib.Omega.{arith}
-use Prim.Native.Nat.{ℕ, ◌<◌}
 use Rattle.measures.proofs.plan.+measure_plan.Goals as goal
 
 pub plan_kind-letter-requires : goal.plan_kind-letter-requires
@@ -31,11 +29,10 @@ overflow_add-at t c =
 pub read_rows-rows-requires : goal.read_rows-rows-requires
 read_rows-rows-requires t c =
     let h = c.requires.0 in
-    let b = c.requires.2 in
     let k = c.plan_kind-letter.ensures in
     let q = c.in-Scale.is in
     let r = rows.scale_rows h k c.link-next.ensures q in
-    (r.0, r.1, r.2, b)
+    (r.0, r.1, r.2)
 
 pub overflow_add-at-in-Scale : goal.overflow_add-at-in-Scale
 overflow_add-at-in-Scale t c =
@@ -45,10 +42,9 @@ overflow_add-at-in-Scale t c =
 pub amount_of-m-requires : goal.amount_of-m-requires
 amount_of-m-requires t c =
     let h = c.requires.0 in
-    let b = c.requires.2 in
     let k = c.plan_kind-letter.ensures in
     let q = c.in-Scale.is in
-    ((plans.scale_ready h k q).0, b, rows.scale_summed h k c.link-next.ensures _ c.read_rows-rows.ensures.2 q)
+    ((plans.scale_ready h k q).0, rows.scale_summed h k c.link-next.ensures _ c.read_rows-rows.ensures.2 q)
 
 pub is_transfer-requires : goal.is_transfer-requires
 is_transfer-requires t c =
@@ -63,8 +59,8 @@ of_scale-requires t c =
     let k = c.plan_kind-letter.ensures in
     let q = c.in-Scale.is in
     let a = c.args in
-    let r : PlanReady (a.left - 1) a.nodes.now.now c.link-next.result = rw c.link-next.ensures (plans.scale_ready h k q).2 in
-    laws.measures_addable (record { h = pos 0; f = pos 0; factors = []; bounds = []; values = [] }) 0 0 (bound_in a.bounds.now) r (laws.measures_given _ _ _ _ (laws.transfer_is r refl (c.is_transfer.ensures c.if-is_transfer.true)) (c.of_transfer-then-is_transfer.ensures _ _ _ _ _ _))
+    let r : PlanReady (a.left - 1) a.lent.now.nodes.now c.link-next.result = rw c.link-next.ensures (plans.scale_ready h k q).2 in
+    laws.measures_addable (record { h = pos 0; f = pos 0; factors = []; bounds = []; values = [] }) 0 0 (bound_in a.lent.now.bounds.now) r (laws.measures_given _ _ _ _ (laws.transfer_is r refl (c.is_transfer.ensures c.if-is_transfer.true)) (c.of_transfer-then-is_transfer.ensures _ _ _ _ _ _))
 
 pub returns-then-is_transfer : goal.returns-then-is_transfer
 returns-then-is_transfer t c table a z s =
@@ -72,7 +68,7 @@ returns-then-is_transfer t c table a z s =
     let k = c.plan_kind-letter.ensures in
     let q = c.in-Scale.is in
     let g = c.args in
-    let r : PlanReady (g.left - 1) g.nodes.now.now c.link-next.result = rw c.link-next.ensures (plans.scale_ready h k q).2 in
+    let r : PlanReady (g.left - 1) g.lent.now.nodes.now c.link-next.result = rw c.link-next.ensures (plans.scale_ready h k q).2 in
     let l = rows.scale_latest h k c.link-next.ensures c.read_rows-rows.ensures.0 q in
     let w = rows.scale_window h k c.link-next.ensures s c.window_of-w.ensures c.read_rows-rows.ensures.1 q in
     let x = laws.measures_given _ _ _ _ (laws.transfer_is r refl (c.is_transfer.ensures c.if-is_transfer.true)) (c.of_transfer-then-is_transfer.ensures _ _ _ _ _ _) in
@@ -87,10 +83,9 @@ pub measure_plan-x-requires : goal.measure_plan-x-requires
 measure_plan-x-requires t c =
     let h = c.requires.0 in
     let m = c.requires.1 in
-    let b = c.requires.2 in
     let k = c.plan_kind-letter.ensures in
     let q = c.in-Scale.is in
-    (omega (arith, plans.plan_some h), rw c.link-next.ensures ((plans.scale_ready h k q).2, offsets.near_down m (plans.plan_some h), b))
+    (omega (arith, plans.plan_some h), rw c.link-next.ensures ((plans.scale_ready h k q).2, offsets.near_down m (plans.plan_some h)))
 
 pub of_scale-requires-in-Scale : goal.of_scale-requires-in-Scale
 of_scale-requires-in-Scale t c =
@@ -98,7 +93,7 @@ of_scale-requires-in-Scale t c =
     let k = c.plan_kind-letter.ensures in
     let q = c.in-Scale.is in
     let a = c.args in
-    let r : PlanReady (a.left - 1) a.nodes.now.now c.link-next.result = rw c.link-next.ensures (plans.scale_ready h k q).2 in
+    let r : PlanReady (a.left - 1) a.lent.now.nodes.now c.link-next.result = rw c.link-next.ensures (plans.scale_ready h k q).2 in
     laws.measures_addable _ _ _ _ r (c.measure_plan-x.ensures _ _ _ (offsets.seen_some _ _ _))
 
 pub delay-d-requires : goal.delay-d-requires
@@ -136,12 +131,11 @@ pub measure_plan-x-requires-in-Later : goal.measure_plan-x-requires-in-Later
 measure_plan-x-requires-in-Later t c =
     let h = c.requires.0 in
     let m = c.requires.1 in
-    let b = c.requires.2 in
     let k = c.plan_kind-letter.ensures in
     let q = c.in-Later.is in
     let d = (plans.later_ready h k q).0 in
     let r = offsets.near_later m (plans.plan_some h) c.delay-d.ensures d c.nearer-low_then.ensures c.nearer-high_then.ensures in
-    (omega (arith, plans.plan_some h), ((plans.later_ready h k q).1, r, b))
+    (omega (arith, plans.plan_some h), ((plans.later_ready h k q).1, r))
 
 pub months-requires : goal.months-requires
 months-requires t c =
@@ -178,10 +172,9 @@ pub measure_plan-x-requires-in-Both : goal.measure_plan-x-requires-in-Both
 measure_plan-x-requires-in-Both t c =
     let h = c.requires.0 in
     let m = c.requires.1 in
-    let b = c.requires.2 in
     let k = c.plan_kind-letter.ensures in
     let q = c.in-Both.is in
-    (omega (arith, plans.plan_some h), ((plans.both_ready h k q).0, offsets.near_down m (plans.plan_some h), b))
+    (omega (arith, plans.plan_some h), ((plans.both_ready h k q).0, offsets.near_down m (plans.plan_some h)))
 
 pub overflow_sub-left-in-Both-2 : goal.overflow_sub-left-in-Both-2
 overflow_sub-left-in-Both-2 t c =
@@ -192,10 +185,9 @@ pub measure_plan-y-requires : goal.measure_plan-y-requires
 measure_plan-y-requires t c =
     let h = c.requires.0 in
     let m = c.requires.1 in
-    let b = c.requires.2 in
     let k = c.plan_kind-letter.ensures in
     let q = c.in-Both.is in
-    (omega (arith, plans.plan_some h), rw c.link-next-in-Both.ensures ((plans.both_ready h k q).2, offsets.near_down m (plans.plan_some h), b))
+    (omega (arith, plans.plan_some h), rw c.link-next-in-Both.ensures ((plans.both_ready h k q).2, offsets.near_down m (plans.plan_some h)))
 
 pub of_both-requires : goal.of_both-requires
 of_both-requires t c =
@@ -203,7 +195,7 @@ of_both-requires t c =
     let k = c.plan_kind-letter.ensures in
     let q = c.in-Both.is in
     let a = c.args in
-    let y : PlanReady (a.left - 1) a.nodes.now.now c.link-next-in-Both.result = rw c.link-next-in-Both.ensures (plans.both_ready h k q).2 in
+    let y : PlanReady (a.left - 1) a.lent.now.nodes.now c.link-next-in-Both.result = rw c.link-next-in-Both.ensures (plans.both_ready h k q).2 in
     (laws.measures_addable _ _ _ _ (plans.both_ready h k q).0 (c.measure_plan-x-in-Both.ensures _ _ _ (offsets.seen_some _ _ _)), laws.measures_addable _ _ _ _ y (c.measure_plan-y.ensures _ _ _ (offsets.seen_some _ _ _)))
 
 pub delay-d-requires-in-Within : goal.delay-d-requires-in-Within
@@ -249,11 +241,10 @@ overflow_add-at-in-Within t c =
 pub read_rows-rows-requires-in-Within : goal.read_rows-rows-requires-in-Within
 read_rows-rows-requires-in-Within t c =
     let h = c.requires.0 in
-    let b = c.requires.2 in
     let k = c.plan_kind-letter.ensures in
     let q = c.in-Within.is in
     let r = rows.within_rows h k c.link-next-in-Within.ensures q in
-    (r.0, r.1, r.2, b)
+    (r.0, r.1, r.2)
 
 pub overflow_add-at-in-Within-2 : goal.overflow_add-at-in-Within-2
 overflow_add-at-in-Within-2 t c =
@@ -263,10 +254,9 @@ overflow_add-at-in-Within-2 t c =
 pub test_of-t-requires : goal.test_of-t-requires
 test_of-t-requires t c =
     let h = c.requires.0 in
-    let b = c.requires.2 in
     let k = c.plan_kind-letter.ensures in
     let q = c.in-Within.is in
-    ((plans.within_ready h k q).1, b, rows.within_summed h k c.link-next-in-Within.ensures _ c.read_rows-rows-in-Within.ensures.2 q)
+    ((plans.within_ready h k q).1, rows.within_summed h k c.link-next-in-Within.ensures _ c.read_rows-rows-in-Within.ensures.2 q)
 
 pub overflow_sub-left-in-Within : goal.overflow_sub-left-in-Within
 overflow_sub-left-in-Within t c =
@@ -277,12 +267,11 @@ pub measure_plan-x-requires-in-Within : goal.measure_plan-x-requires-in-Within
 measure_plan-x-requires-in-Within t c =
     let h = c.requires.0 in
     let m = c.requires.1 in
-    let b = c.requires.2 in
     let k = c.plan_kind-letter.ensures in
     let q = c.in-Within.is in
     let d = (plans.within_ready h k q).0 in
     let r = offsets.near_wait m (plans.plan_some h) c.delay-d-in-Within.ensures d c.nearer-low_then-in-Within.ensures c.nearer-high_then-in-Within.ensures in
-    (omega (arith, plans.plan_some h, c.decreases), rw c.link-next-in-Within.ensures ((plans.within_ready h k q).2.1, r, b))
+    (omega (arith, plans.plan_some h, c.decreases), rw c.link-next-in-Within.ensures ((plans.within_ready h k q).2.1, r))
 
 pub overflow_sub-left-in-Within-2 : goal.overflow_sub-left-in-Within-2
 overflow_sub-left-in-Within-2 t c =
@@ -293,12 +282,11 @@ pub measure_plan-y-requires-in-Within : goal.measure_plan-y-requires-in-Within
 measure_plan-y-requires-in-Within t c =
     let h = c.requires.0 in
     let m = c.requires.1 in
-    let b = c.requires.2 in
     let k = c.plan_kind-letter.ensures in
     let q = c.in-Within.is in
     let d = (plans.within_ready h k q).0 in
     let r = offsets.near_later m (plans.plan_some h) c.delay-d-in-Within.ensures d c.nearer-low_then-in-Within.ensures c.nearer-high_then-in-Within.ensures in
-    (omega (arith, plans.plan_some h, c.decreases), rw c.link-other.ensures ((plans.within_ready h k q).3.1, r, b))
+    (omega (arith, plans.plan_some h, c.decreases), rw c.link-other.ensures ((plans.within_ready h k q).3.1, r))
 
 pub months-requires-in-Within : goal.months-requires-in-Within
 months-requires-in-Within t c =
@@ -311,8 +299,8 @@ of_within-requires t c =
     let k = c.plan_kind-letter.ensures in
     let q = c.in-Within.is in
     let a = c.args in
-    let x : PlanReady (a.left - 1) a.nodes.now.now c.link-next-in-Within.result = rw c.link-next-in-Within.ensures (plans.within_ready h k q).2.1 in
-    let y : PlanReady (a.left - 1) a.nodes.now.now c.link-other.result = rw c.link-other.ensures (plans.within_ready h k q).3.1 in (
+    let x : PlanReady (a.left - 1) a.lent.now.nodes.now c.link-next-in-Within.result = rw c.link-next-in-Within.ensures (plans.within_ready h k q).2.1 in
+    let y : PlanReady (a.left - 1) a.lent.now.nodes.now c.link-other.result = rw c.link-other.ensures (plans.within_ready h k q).3.1 in (
       omega (arith, (plans.within_ready h k q).0, c.months-in-Within.ensures),
       laws.measures_addable _ _ _ _ x (c.measure_plan-x-in-Within.ensures _ _ _ (offsets.seen_some _ _ _)),
       laws.measures_addable _ _ _ _ y (c.measure_plan-y-in-Within.ensures _ _ _ (offsets.seen_some _ _ _)),

@@ -1,5 +1,4 @@
 use Rattle.measures.proofs.PlanMeasures as laws
-use borrow.Author.Rules.{rules}
 use mathlib.Core.Path.{refl}
 use Rattle.measures.proofs.plan.of_both.Goals as goal
 
@@ -9,4 +8,4 @@ sum_of-magnitude-requires c = (c.requires.0.magnitude, c.requires.1.magnitude)
 pub returns : goal.returns
 returns c =
     λ t a z bound p q h k.
-    laws.both_measures t a z bound p q c.requires.0 c.requires.1 h k c.later_of-length.ensures c.sooner_of-first.ensures refl refl c.sum_of-magnitude.ensures
+    laws.both_measures t a z bound p q c.requires.0 c.requires.1 h k c.max-length.ensures c.min-first.ensures refl refl c.sum_of-magnitude.ensures

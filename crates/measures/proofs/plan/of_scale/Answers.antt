@@ -1,5 +1,4 @@
 use Rattle.measures.proofs.PlanMeasures as laws
-use borrow.Author.Rules.{rules}
 use mathlib.Core.Path.{refl}
 use Rattle.measures.proofs.plan.of_scale.Goals as goal
 

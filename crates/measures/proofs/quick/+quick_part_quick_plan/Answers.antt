@@ -10,17 +10,16 @@ use mathlib.Core.Path.{◌∙◌, ap, refl, sym}
 use mir.Syntax.{w64}
 use mir.Val.{SFits}
 use native.Mathlib.Omega.{arith}
-use Prim.Native.Nat.{ℕ, ◌<◌}
 use Rattle.measures.proofs.quick.+quick_part_quick_plan.Goals as goal
 
 pub quick_part-slot-x-requires : goal.quick_part-slot-x-requires
 quick_part-slot-x-requires t c = (plans.plan_room c.requires.0, omega arith)
 
 pub quick_part-quick_transfer-requires : goal.quick_part-quick_transfer-requires
-quick_part-quick_transfer-requires t c = c.requires.3
+quick_part-quick_transfer-requires t c = c.requires.2
 
 pub quick_part-quick_nothing-requires : goal.quick_part-quick_nothing-requires
-quick_part-quick_nothing-requires t c = c.requires.3
+quick_part-quick_nothing-requires t c = c.requires.2
 
 pub quick_part-quick_plan-requires : goal.quick_part-quick_plan-requires
 quick_part-quick_plan-requires t c = (omega arith, c.requires)
@@ -44,10 +43,10 @@ pub quick_plan-plan_kind-letter-requires : goal.quick_plan-plan_kind-letter-requ
 quick_plan-plan_kind-letter-requires t c = plans.plan_room c.requires.0
 
 pub quick_plan-quick_nothing-requires : goal.quick_plan-quick_nothing-requires
-quick_plan-quick_nothing-requires t c = c.requires.3
+quick_plan-quick_nothing-requires t c = c.requires.2
 
 pub quick_plan-quick_transfer-requires : goal.quick_plan-quick_transfer-requires
-quick_plan-quick_transfer-requires t c = c.requires.3
+quick_plan-quick_transfer-requires t c = c.requires.2
 
 pub quick_plan-link-next-requires : goal.quick_plan-link-next-requires
 quick_plan-link-next-requires t c =
@@ -64,11 +63,10 @@ quick_plan-overflow_add-at t c =
 pub quick_plan-read_rows-rows-requires : goal.quick_plan-read_rows-rows-requires
 quick_plan-read_rows-rows-requires t c =
     let h = c.requires.0 in
-    let b = c.requires.2 in
     let k = c.plan_kind-letter.ensures in
     let q = c.in-Scale.is in
     let r = rows.scale_rows h k c.link-next.ensures q in
-    (r.0, r.1, r.2, b)
+    (r.0, r.1, r.2)
 
 pub quick_plan-overflow_add-at-then-rows : goal.quick_plan-overflow_add-at-then-rows
 quick_plan-overflow_add-at-then-rows t c =
@@ -78,10 +76,9 @@ quick_plan-overflow_add-at-then-rows t c =
 pub quick_plan-amount_of-m-requires : goal.quick_plan-amount_of-m-requires
 quick_plan-amount_of-m-requires t c =
     let h = c.requires.0 in
-    let b = c.requires.2 in
     let k = c.plan_kind-letter.ensures in
     let q = c.in-Scale.is in
-    ((plans.scale_ready h k q).0, b, rows.scale_summed h k c.link-next.ensures _ c.read_rows-rows.ensures.2 q)
+    ((plans.scale_ready h k q).0, rows.scale_summed h k c.link-next.ensures _ c.read_rows-rows.ensures.2 q)
 
 pub quick_plan-overflow_sub-left : goal.quick_plan-overflow_sub-left
 quick_plan-overflow_sub-left t c =
@@ -92,22 +89,21 @@ pub quick_plan-quick_part-x-requires : goal.quick_plan-quick_part-x-requires
 quick_plan-quick_part-x-requires t c =
     let h = c.requires.0 in
     let m = c.requires.1 in
-    let b = c.requires.2 in
-    let f = c.requires.3 in
+    let f = c.requires.2 in
     let k = c.plan_kind-letter.ensures in
     let q = c.in-Scale.is in
-    (omega (arith, plans.plan_some h, c.decreases), rw c.link-next.ensures ((plans.scale_ready h k q).2, offsets.near_down m (plans.plan_some h), b, f))
+    (omega (arith, plans.plan_some h, c.decreases), rw c.link-next.ensures ((plans.scale_ready h k q).2, offsets.near_down m (plans.plan_some h), f))
 
 pub quick_plan-returns-then-rows : goal.quick_plan-returns-then-rows
 quick_plan-returns-then-rows t c =
     let h = c.requires.0 in
-    let f = c.requires.3 in
+    let f = c.requires.2 in
     let k = c.plan_kind-letter.ensures in
     let q = c.in-Scale.is in
     let l = rows.scale_latest h k c.link-next.ensures c.read_rows-rows.ensures.0 q in (
       omega (arith, c.scaled.ensures.0, sure.joined_most ◌*◌ c.amount_of-m.result (c.quick_part-x.result / 1024)),
       λ table a z s. sure.sure_given table a z _ (plain.scale_is h k q c.link-next.ensures)
-          (sure.scale_sure table a z _ _ _ f l (rows.scale_window h k c.link-next.ensures s c.window_of-w.ensures c.read_rows-rows.ensures.1 q) c.if-rows.true c.amount_of-m.ensures c.later_of-wanted.ensures
+          (sure.scale_sure table a z _ _ _ f l (rows.scale_window h k c.link-next.ensures s c.window_of-w.ensures c.read_rows-rows.ensures.1 q) c.if-rows.true c.amount_of-m.ensures c.max-wanted.ensures
           (c.quick_part-x.ensures.1 table a z s) c.scaled.ensures.0 c.scaled.ensures.1),
       λ i. closing.scale_closed h k q c.link-next.ensures (c.quick_part-x.ensures.2 (sure.joined_parts ◌*◌ c.amount_of-m.result (c.quick_part-x.result / 1024) (omega (arith, c.scaled.ensures.0, i))).1),
     )
@@ -160,12 +156,11 @@ pub quick_plan-quick_part-requires : goal.quick_plan-quick_part-requires
 quick_plan-quick_part-requires t c =
     let h = c.requires.0 in
     let m = c.requires.1 in
-    let b = c.requires.2 in
-    let f = c.requires.3 in
+    let f = c.requires.2 in
     let k = c.plan_kind-letter.ensures in
     let q = c.in-Later.is in
     let r = offsets.near_later m (plans.plan_some h) c.delay-d.ensures (plans.later_ready h k q).0 c.nearer-low_then.ensures c.nearer-high_then.ensures in
-    (omega (arith, plans.plan_some h, c.decreases), ((plans.later_ready h k q).1, r, b, sure.nearer_few c.args.high.0 f c.delay-d.ensures c.nearer-high_then.ensures))
+    (omega (arith, plans.plan_some h, c.decreases), ((plans.later_ready h k q).1, r, sure.nearer_few c.args.high.0 f c.delay-d.ensures c.nearer-high_then.ensures))
 
 pub quick_plan-link-next-requires-in-Both : goal.quick_plan-link-next-requires-in-Both
 quick_plan-link-next-requires-in-Both t c =
@@ -188,11 +183,10 @@ pub quick_plan-quick_part-x-requires-in-Both : goal.quick_plan-quick_part-x-requ
 quick_plan-quick_part-x-requires-in-Both t c =
     let h = c.requires.0 in
     let m = c.requires.1 in
-    let b = c.requires.2 in
-    let f = c.requires.3 in
+    let f = c.requires.2 in
     let k = c.plan_kind-letter.ensures in
     let q = c.in-Both.is in
-    (omega (arith, plans.plan_some h, c.decreases), ((plans.both_ready h k q).0, offsets.near_down m (plans.plan_some h), b, f))
+    (omega (arith, plans.plan_some h, c.decreases), ((plans.both_ready h k q).0, offsets.near_down m (plans.plan_some h), f))
 
 pub quick_plan-overflow_sub-left-in-Both-2 : goal.quick_plan-overflow_sub-left-in-Both-2
 quick_plan-overflow_sub-left-in-Both-2 t c =
@@ -203,11 +197,10 @@ pub quick_plan-quick_part-y-requires : goal.quick_plan-quick_part-y-requires
 quick_plan-quick_part-y-requires t c =
     let h = c.requires.0 in
     let m = c.requires.1 in
-    let b = c.requires.2 in
-    let f = c.requires.3 in
+    let f = c.requires.2 in
     let k = c.plan_kind-letter.ensures in
     let q = c.in-Both.is in
-    (omega (arith, plans.plan_some h, c.decreases), rw c.link-next-in-Both.ensures ((plans.both_ready h k q).2, offsets.near_down m (plans.plan_some h), b, f))
+    (omega (arith, plans.plan_some h, c.decreases), rw c.link-next-in-Both.ensures ((plans.both_ready h k q).2, offsets.near_down m (plans.plan_some h), f))
 
 pub quick_plan-added-requires : goal.quick_plan-added-requires
 quick_plan-added-requires t c = (c.quick_part-x-in-Both.ensures.0, c.quick_part-y.ensures.0)
@@ -263,11 +256,10 @@ quick_plan-overflow_add-at-in-Within t c =
 pub quick_plan-read_rows-rows-requires-in-Within : goal.quick_plan-read_rows-rows-requires-in-Within
 quick_plan-read_rows-rows-requires-in-Within t c =
     let h = c.requires.0 in
-    let b = c.requires.2 in
     let k = c.plan_kind-letter.ensures in
     let q = c.in-Within.is in
     let r = rows.within_rows h k c.link-next-in-Within.ensures q in
-    (r.0, r.1, r.2, b)
+    (r.0, r.1, r.2)
 
 pub quick_plan-overflow_add-at-then-tried_in_time : goal.quick_plan-overflow_add-at-then-tried_in_time
 quick_plan-overflow_add-at-then-tried_in_time t c =
@@ -277,10 +269,9 @@ quick_plan-overflow_add-at-then-tried_in_time t c =
 pub quick_plan-test_of-requires : goal.quick_plan-test_of-requires
 quick_plan-test_of-requires t c =
     let h = c.requires.0 in
-    let b = c.requires.2 in
     let k = c.plan_kind-letter.ensures in
     let q = c.in-Within.is in
-    ((plans.within_ready h k q).1, b, rows.within_summed h k c.link-next-in-Within.ensures _ c.read_rows-rows-in-Within.ensures.2 q)
+    ((plans.within_ready h k q).1, rows.within_summed h k c.link-next-in-Within.ensures _ c.read_rows-rows-in-Within.ensures.2 q)
 
 pub quick_plan-overflow_sub-left-then-test_of : goal.quick_plan-overflow_sub-left-then-test_of
 quick_plan-overflow_sub-left-then-test_of t c =
@@ -291,12 +282,11 @@ pub quick_plan-quick_part-x-requires-then-test_of : goal.quick_plan-quick_part-x
 quick_plan-quick_part-x-requires-then-test_of t c =
     let h = c.requires.0 in
     let m = c.requires.1 in
-    let b = c.requires.2 in
-    let f = c.requires.3 in
+    let f = c.requires.2 in
     let k = c.plan_kind-letter.ensures in
     let q = c.in-Within.is in
     let r = offsets.near_wait m (plans.plan_some h) c.delay-d-in-Within.ensures (plans.within_ready h k q).0 c.nearer-low_then-in-Within.ensures c.nearer-high_then-in-Within.ensures in
-    (omega (arith, plans.plan_some h, c.decreases), rw c.link-next-in-Within.ensures ((plans.within_ready h k q).2.1, r, b, sure.nearer_few c.args.high.0 f c.delay-d-in-Within.ensures c.nearer-high_then-in-Within.ensures))
+    (omega (arith, plans.plan_some h, c.decreases), rw c.link-next-in-Within.ensures ((plans.within_ready h k q).2.1, r, sure.nearer_few c.args.high.0 f c.delay-d-in-Within.ensures c.nearer-high_then-in-Within.ensures))
 
 pub quick_plan-overflow_sub-left-then-test_of-2 : goal.quick_plan-overflow_sub-left-then-test_of-2
 quick_plan-overflow_sub-left-then-test_of-2 t c =
@@ -307,12 +297,11 @@ pub quick_plan-quick_part-y-requires-then-test_of : goal.quick_plan-quick_part-y
 quick_plan-quick_part-y-requires-then-test_of t c =
     let h = c.requires.0 in
     let m = c.requires.1 in
-    let b = c.requires.2 in
-    let f = c.requires.3 in
+    let f = c.requires.2 in
     let k = c.plan_kind-letter.ensures in
     let q = c.in-Within.is in
     let r = offsets.near_later m (plans.plan_some h) c.delay-d-in-Within.ensures (plans.within_ready h k q).0 c.nearer-low_then-in-Within.ensures c.nearer-high_then-in-Within.ensures in
-    (omega (arith, plans.plan_some h, c.decreases), rw c.link-other.ensures ((plans.within_ready h k q).3.1, r, b, sure.nearer_few c.args.high.0 f c.delay-d-in-Within.ensures c.nearer-high_then-in-Within.ensures))
+    (omega (arith, plans.plan_some h, c.decreases), rw c.link-other.ensures ((plans.within_ready h k q).3.1, r, sure.nearer_few c.args.high.0 f c.delay-d-in-Within.ensures c.nearer-high_then-in-Within.ensures))
 
 pub quick_plan-either-requires : goal.quick_plan-either-requires
 quick_plan-either-requires t c = (c.quick_part-x-then-test_of.ensures.0, c.quick_part-y-then-test_of.ensures.0)
@@ -320,7 +309,7 @@ quick_plan-either-requires t c = (c.quick_part-x-then-test_of.ensures.0, c.quick
 pub quick_plan-returns-then-test_of : goal.quick_plan-returns-then-test_of
 quick_plan-returns-then-test_of t c =
     let h = c.requires.0 in
-    let f = c.requires.3 in
+    let f = c.requires.2 in
     let k = c.plan_kind-letter.ensures in
     let q = c.in-Within.is in
     let l = rows.within_latest h k c.link-next-in-Within.ensures c.read_rows-rows-in-Within.ensures.0 q in
@@ -357,14 +346,14 @@ quick_plan-returns-else-rows t c = (omega arith, λ table a z s. sure.unsure tab
 pub quick_plan-returns-else-is_open : goal.quick_plan-returns-else-is_open
 quick_plan-returns-else-is_open t c =
     let h = c.requires.0 in
-    let f = c.requires.3 in
+    let f = c.requires.2 in
     let k = c.plan_kind-letter.ensures in
     let q = c.in-Later.is in
     let i = sure.nearer_few c.args.high.0 f c.delay-d.ensures c.nearer-high_then.ensures in (
       c.quick_part.ensures.0,
       λ table a z s.
           sure.sure_given table a z _ (plain.later_is h k q refl)
-          (sure.later_sure table a z _ (plans.later_ready h k q).0 i c.delay-d.ensures c.nearer-high_then.ensures _ (c.needed-wanted.ensures ∙ ap (λ n. c.args.need - n) c.months.ensures)
+          (sure.later_sure table a z _ (plans.later_ready h k q).0 i c.delay-d.ensures c.nearer-high_then.ensures _ (c.saturating_sub-wanted.ensures ∙ ap (λ n. c.args.need - n) c.months.ensures)
           (c.quick_part.ensures.1 _ _ _ (offsets.seen_later s c.delay-d.ensures c.nearer-low_then.ensures c.nearer-high_then.ensures))),
       λ i. closing.later_closed h k (sym c.is_open.ensures ∙ c.if-is_open.false) q (c.quick_part.ensures.2 i),
     )
@@ -372,7 +361,7 @@ quick_plan-returns-else-is_open t c =
 pub quick_plan-returns-in-Both : goal.quick_plan-returns-in-Both
 quick_plan-returns-in-Both t c =
     let h = c.requires.0 in
-    let f = c.requires.3 in
+    let f = c.requires.2 in
     let k = c.plan_kind-letter.ensures in
     let q = c.in-Both.is in (
       omega (arith, c.added.ensures.0, sure.joined_most ◌+◌ (c.quick_part-x-in-Both.result / 1024) (c.quick_part-y.result / 1024)),

@@ -1,6 +1,5 @@
 use Prim.Native.Nat.{◌+◌, ◌/◌}
 use Rattle.measures.proofs.SurePlans.{joined_most}
-use borrow.Author.Rules.{rules}
 use native.Mathlib.Omega.{arith}
 use Rattle.measures.proofs.quick.added.Goals as goal
 
@@ -8,4 +7,4 @@ pub overflow_mul-result : goal.overflow_mul-result
 overflow_mul-result c = omega (arith, c.sum_of.ensures, joined_most ◌+◌ (c.args.x / 1024) (c.args.y / 1024))
 
 pub overflow_add-result : goal.overflow_add-result
-overflow_add-result c = omega (arith, c.sum_of.ensures, c.sooner_of.ensures, joined_most ◌+◌ (c.args.x / 1024) (c.args.y / 1024))
+overflow_add-result c = omega (arith, c.sum_of.ensures, c.min.ensures, joined_most ◌+◌ (c.args.x / 1024) (c.args.y / 1024))

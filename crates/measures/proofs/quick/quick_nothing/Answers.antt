@@ -1,4 +1,4 @@
-use Rattle.measures.proofs.Fields.{field_cast}
+use Rattle.nodes.proofs.Fields.{field_cast}
 use Rattle.measures.proofs.SurePlans.{left_few, left_is, nothing_sure, unsure}
 use borrow.Author.Rules.{rules}
 use mathlib.Core.Path.{refl}

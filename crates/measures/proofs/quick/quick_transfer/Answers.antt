@@ -1,5 +1,5 @@
-use Rattle.measures.proofs.Fields.{field_cast}
-use Rattle.measures.proofs.SurePlans.{left_few, left_is, transfer_sure, unsure}
+use Rattle.nodes.proofs.Fields.{field_cast}
+use Rattle.measures.proofs.SurePlans.{left_few, left_is, transfer_sure}
 use borrow.Author.Rules.{rules}
 use mathlib.Core.Path.{refl}
 use mir.Syntax.{w64}

@@ -1,6 +1,5 @@
 use Prim.Native.Nat.{◌*◌, ◌/◌}
 use Rattle.measures.proofs.SurePlans.{joined_most}
-use borrow.Author.Rules.{rules}
 use native.Mathlib.Omega.{arith}
 use Rattle.measures.proofs.quick.scaled.Goals as goal
 

@@ -13,12 +13,12 @@ returns-then-l-w c =
     let t = c.if-is_index.true in
     let l = c.label-l.ensures in
     let o = c.offset-i.ensures in
-    laws.row_index c.args.w c.args.nodes.now.now c.args.at i t l low high f o c.if-l-w.true
+    laws.row_index c.args.w c.args.nodes.now c.args.at i t l low high f o c.if-l-w.true
 
 pub returns-then-is_index : goal.returns-then-is_index
 returns-then-is_index c =
-    laws.row_unknown c.args.w c.args.nodes.now.now c.args.at c.is_index.ensures c.if-is_index.true c.label-l.ensures c.if-l-w.false
+    laws.row_unknown c.args.w c.args.nodes.now c.args.at c.is_index.ensures c.if-is_index.true c.label-l.ensures c.if-l-w.false
 
 pub returns : goal.returns
 returns c =
-    laws.row_other c.args.w c.args.nodes.now.now c.args.at c.is_index.ensures c.if-is_index.false
+    laws.row_other c.args.w c.args.nodes.now c.args.at c.is_index.ensures c.if-is_index.false

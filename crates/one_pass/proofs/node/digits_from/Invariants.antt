@@ -9,6 +9,3 @@ use Rattle.one_pass.proofs.node.digits_from.Given as goal
 
 abbrev pub invariant-loop-i : goal.invariant-loop-i
 invariant-loop-i l = (l.i ≤ 1024) × (l.v ≤ 9000000000000) × Going (up_to 44 (drop l.at l.text.now)) (up_to 44 (drop l.i l.text.now)) l.v l.at l.i
-
-abbrev pub decreases-loop-i : goal.decreases-loop-i
-decreases-loop-i l = length l.text.now - l.i

@@ -2,7 +2,6 @@ use mathlib.Core.Path.{◌∙◌, ap, sym}
 use mathlib.Core.Bool.{not}
 use Rattle.payments.proofs.RootWaits.{by_letter, none_left}
 use Rattle.payments.specs.Waits.{waits_by}
-use borrow.Author.Rules.{rules}
 use Rattle.payments.proofs.waits.root_waits.Goals as goal
 
 pub returns-then-due : goal.returns-then-due

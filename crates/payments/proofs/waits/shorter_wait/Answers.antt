@@ -2,7 +2,6 @@ use lib.ListN.{length-set}
 use mathlib.Core.Path.{refl}
 use native.Mathlib.Omega.{arith}
 use Rattle.payments.proofs.Shortened.{digits_room, few_digits, no_room, rest_room, same_size, whole}
-use borrow.Author.Rules.{rules}
 use Rattle.payments.proofs.waits.shorter_wait.Goals as goal
 
 pub overflow_add-need : goal.overflow_add-need

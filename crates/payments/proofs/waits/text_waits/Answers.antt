@@ -1,6 +1,5 @@
 use Rattle.text.specs.Opens.{opens}
 use Rattle.payments.proofs.RootWaits.{waits_not, waits_then}
-use borrow.Author.Rules.{rules}
 use Rattle.payments.proofs.waits.text_waits.Goals as goal
 
 pub returns-then-root_waits : goal.returns-then-root_waits

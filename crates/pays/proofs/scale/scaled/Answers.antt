@@ -13,7 +13,7 @@ use Rattle.pays.proofs.scale.scaled.Goals as goal
 pub returns-then-pence-eq0 : goal.returns-then-pence-eq0
 returns-then-pence-eq0 c =
     let f : SFits w64 c.args.x.0 = search rules in
-    nothing_of_nothing f c.if-pence-eq0.true (value (flat c.args.values.now.now) (amount_at offset_of 512 c.args.nodes.now.now c.args.at) (nat_of c.args.root.0))
+    nothing_of_nothing f c.if-pence-eq0.true (value (flat c.args.tables.now.values.now) (amount_at offset_of 512 c.args.tables.now.nodes.now c.args.at) (nat_of c.args.root.0))
 
 pub times-requires : goal.times-requires
 times-requires c =

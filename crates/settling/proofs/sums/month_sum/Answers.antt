@@ -1,10 +1,11 @@
-use Prim.Native.Nat.{◌%◌, ◌-◌}
-use borrow.Author.Rules.{rules}
+use Prim.Native.Nat.{◌%◌}
 use native.Mathlib.Omega.{arith}
 use lib.ListN.{replicate}
-use mathlib.Core.Path.{subst}
+use mathlib.Core.Path.{subst, sym}
 use Rattle.settling.specs.Sums.{SumIs}
 use Rattle.settling.proofs.SettingSums as sums
+use Rattle.nodes.specs.Rows.{settings_in}
+use Rattle.integers.proofs.Passed.{handed_up}
 use Rattle.settling.proofs.sums.month_sum.Goals as goal
 
 pub loop-k-init : goal.loop-k-init
@@ -19,25 +20,19 @@ term-requires c = (omega arith, c.requires)
 pub overflow_add-sum : goal.overflow_add-sum
 overflow_add-sum c =
     let i = c.loop-k.invariant in
-    let h = subst (SumIs c.args.days.now (replicate (c.loop-k.rest % 32) c.loop-k.k)) c.in-Months.is c.term.ensures in
+    let h = subst (SumIs c.args.days.now (replicate (c.loop-k.rest % 32) c.loop-k.k)) c.in_ok-sum.was c.term.ensures in
     record { fits = omega (arith, i.small, sums.next_small c.args.days.now i (omega arith) c.requires _ h) }
-
-pub overflow_add-k : goal.overflow_add-k
-overflow_add-k c = omega arith
-
-pub loop-k-smaller : goal.loop-k-smaller
-loop-k-smaller c = omega arith
 
 pub loop-k-preserved : goal.loop-k-preserved
 loop-k-preserved c =
     let i = c.loop-k.invariant in
-    let h = subst (SumIs c.args.days.now (replicate (c.loop-k.rest % 32) c.loop-k.k)) c.in-Months.is c.term.ensures in
+    let h = subst (SumIs c.args.days.now (replicate (c.loop-k.rest % 32) c.loop-k.k)) c.in_ok-sum.was c.term.ensures in
     sums.summing_next c.args.days.now i (omega arith) c.requires _ h
 
-pub returns-in-Unset : goal.returns-in-Unset
-returns-in-Unset c =
-    let h = subst (SumIs c.args.days.now (replicate (c.loop-k.rest % 32) c.loop-k.k)) c.in-Unset.is c.term.ensures in
-    sums.summing_stop c.args.days.now c.loop-k.invariant (omega arith) h
+pub returns-in_err-sum : goal.returns-in_err-sum
+returns-in_err-sum c =
+    let h = subst (SumIs c.args.days.now (replicate (c.loop-k.rest % 32) c.loop-k.k)) c.in_err-sum.was c.term.ensures in
+    subst (SumIs c.args.days.now (settings_in c.args.digits)) (sym (handed_up _ c.from_residual.ensures.1)) (sums.summing_stop c.args.days.now c.loop-k.invariant (omega arith) h)
 
 pub returns : goal.returns
 returns c = sums.summing_end c.args.days.now c.loop-k.invariant (omega arith)

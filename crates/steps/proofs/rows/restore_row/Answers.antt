@@ -1,7 +1,6 @@
 use mathlib.Core.Path.{◌∙◌, sym}
 use Rattle.copies.proofs.Appending.{appended_as}
 use Rattle.steps.proofs.RowSteps.{index_restored, other_restored}
-use borrow.Author.Rules.{rules}
 use Rattle.steps.proofs.rows.restore_row.Goals as goal
 
 pub returns-then-is_index : goal.returns-then-is_index

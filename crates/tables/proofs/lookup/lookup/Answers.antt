@@ -5,12 +5,12 @@ use Rattle.tables.proofs.lookup.lookup.Goals as goal
 
 pub value_at-requires : goal.value_at-requires
 unfolding Inside
-value_at-requires c = subst (Inside (length c.args.values.now)) c.in-At.is c.requires
+value_at-requires c = subst (Inside (length c.args.values.now)) c.in-Some.is c.requires
 
-pub returns-in-At : goal.returns-in-At
+pub returns-in-Some : goal.returns-in-Some
 unfolding found_answer standing
-returns-in-At c = ap got c.value_at.ensures ∙ ap (standing c.args.values.now) (sym c.in-At.is)
+returns-in-Some c = ap got c.value_at.ensures ∙ ap (standing c.args.values.now) (sym c.in-Some.is)
 
-pub returns-in-Nowhere : goal.returns-in-Nowhere
+pub returns-in-None : goal.returns-in-None
 unfolding found_answer standing
-returns-in-Nowhere c = ap (standing c.args.values.now) (sym c.in-Nowhere.is)
+returns-in-None c = ap (standing c.args.values.now) (sym c.in-None.is)

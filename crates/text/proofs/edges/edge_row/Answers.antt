@@ -1,4 +1,3 @@
-use borrow.Author.Rules.{rules}
 use lib.ListN.{drop}
 use mathlib.Core.Path.{subst, sym}
 use Rattle.fields.specs.Positions.{up_to}
@@ -13,7 +12,7 @@ pub returns-then-bare-kind : goal.returns-then-bare-kind
 returns-then-bare-kind c =
     let a = c.args in
     let p = c.requires in
-    let alone = subst (SoleIs (up_to 44 (drop a.at a.text.now))) c.in-Byte.is c.letter_at.ensures in
+    let alone = subst (SoleIs (up_to 44 (drop a.at a.text.now))) c.in_ok-letter.was c.letter_at.ensures in
     bare_row a.text.now a.at a.kind p.1 _ alone a.form _ c.bare_letter-bare.ensures p.3 c.if-bare-kind.true a.nodes.now _ a.count c.put_row.ensures
 
 pub returns-in-Plan : goal.returns-in-Plan

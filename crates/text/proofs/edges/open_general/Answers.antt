@@ -1,6 +1,5 @@
-use borrow.Author.Rules.{rules}
-use lib.IntN.{ℤ}
-use mathlib.Core.List.{List}
+use Prim.Native.Nat.{◌*◌, ◌+◌}
+use Rattle.std.proofs.Common.{Ok}
 use mathlib.Core.Path.{◌∙◌, ◌≡◌, subst, sym}
 use native.Mathlib.Omega.{arith}
 use Rattle.text.proofs.LetterCounts.{letters_all}
@@ -10,44 +9,20 @@ use Rattle.text.specs.Room.{Roomy}
 use Rattle.text.specs.Rows.{QuickIs, RowIs}
 use Rattle.text.proofs.PackedLaws.{open_number}
 use Rattle.text.proofs.edges.open_general.Goals as goal
-use Rattle.text.proofs.edges.open_general.Goals.{Joined-at-text, then-at-text+then-count-lt-MAX_NODES+then-left-gt0+in-Other, then-at-text+then-count-lt-MAX_NODES+else-left-gt0, then-at-text+else-count-lt-MAX_NODES, else-at-text}
+use Rattle.text.proofs.edges.open_general.Goals.{Joined-at-text, then-at-text+then-count-lt-MAX_NODES+then-left-gt0+in_default, else-at-text}
 
 pub edge_row-requires : goal.edge_row-requires
 edge_row-requires c =
     let p = c.requires in
     (p.1, c.if-at-text.true, p.2 _ c.if-count-lt-MAX_NODES.true (omega (arith, p.3, letters_all c.args.text.now c.args.at)), p.4)
 
-pub overflow_add-result : goal.overflow_add-result
-overflow_add-result c =
+pub returns-in-Some : goal.returns-in-Some
+returns-in-Some c =
     let a = c.args in
-    let p = c.requires in
-    let o = subst (QuickIs (form_of a.form) (kind_at a.kind) a.text.now a.at a.nodes.now _ a.count) c.in-Opened.is c.edge_row.ensures in
+    let o = subst (QuickIs (form_of a.form) (kind_at a.kind) a.text.now a.at a.nodes.now _ a.count) c.in-Some.is c.edge_row.ensures in
     let b = o.opens.is a.left a.count c.if-count-lt-MAX_NODES.true c.if-left-gt0.true in
-    omega (arith, p.1, o.behind, o.children, b.within, b.small.0, b.small.1, b.small.2)
-
-pub overflow_mul-result : goal.overflow_mul-result
-overflow_mul-result c =
-    let a = c.args in
-    let p = c.requires in
-    let o = subst (QuickIs (form_of a.form) (kind_at a.kind) a.text.now a.at a.nodes.now _ a.count) c.in-Opened.is c.edge_row.ensures in
-    let b = o.opens.is a.left a.count c.if-count-lt-MAX_NODES.true c.if-left-gt0.true in
-    omega (arith, p.1, o.behind, o.children, b.within, b.small.0, b.small.1, b.small.2)
-
-pub overflow_add-result-in-Opened : goal.overflow_add-result-in-Opened
-overflow_add-result-in-Opened c =
-    let a = c.args in
-    let p = c.requires in
-    let o = subst (QuickIs (form_of a.form) (kind_at a.kind) a.text.now a.at a.nodes.now _ a.count) c.in-Opened.is c.edge_row.ensures in
-    let b = o.opens.is a.left a.count c.if-count-lt-MAX_NODES.true c.if-left-gt0.true in
-    omega (arith, p.1, o.behind, o.children, b.within, b.small.0, b.small.1, b.small.2)
-
-pub returns-in-Opened : goal.returns-in-Opened
-returns-in-Opened c =
-    let a = c.args in
-    let p = c.requires in
-    let o = subst (QuickIs (form_of a.form) (kind_at a.kind) a.text.now a.at a.nodes.now _ a.count) c.in-Opened.is c.edge_row.ensures in
-    let b = o.opens.is a.left a.count c.if-count-lt-MAX_NODES.true c.if-left-gt0.true in
-    subst (RowIs (form_of a.form) a.left (kind_at a.kind) a.text.now a.at a.nodes.now _ a.count) (sym (open_number _ _ (omega (arith, o.children, b.small.0, b.small.1, b.small.2))))
+    let n : row_of ((c.in-Some.row.next + 1) * 64 + c.from.result) ≡ Ok c.in-Some.row = rw c.from.ensures (open_number _ _ (omega (arith, o.children, b.small.0, b.small.1, b.small.2))) in
+    subst (RowIs (form_of a.form) a.left (kind_at a.kind) a.text.now a.at a.nodes.now _ a.count) (sym n)
     (record { head = o.head; begun = b; behind = o.behind; children = o.children; row = o.row })
 
 -- nothing was written where no node was opened
@@ -55,9 +30,7 @@ same : (c : Joined-at-text) → c.if-at-text.nodes ≡ c.args.nodes.now
 same c =
     let a = c.args in
     elim c.if-at-text.branch [
-      | then-at-text+then-count-lt-MAX_NODES+then-left-gt0+in-Other w ↦ w.nodes-is ∙ subst (QuickIs (form_of a.form) (kind_at a.kind) a.text.now a.at a.nodes.now _ a.count) w.in-Other.is w.edge_row.ensures
-      | then-at-text+then-count-lt-MAX_NODES+else-left-gt0 w ↦ w.nodes-is
-      | then-at-text+else-count-lt-MAX_NODES w ↦ w.nodes-is
+      | then-at-text+then-count-lt-MAX_NODES+then-left-gt0+in_default w ↦ w.nodes-is ∙ w.in_default.ensures
       | else-at-text w ↦ w.nodes-is
     ]
 
@@ -67,9 +40,3 @@ open_by_table-requires c =
     let e = same (goal.at.open_by_table-requires c).Joined-at-text in
     let p = c.requires in
     (p.0, p.1, subst (Roomy a.text.now) (sym e) p.2, p.3, p.4, p.5)
-
-pub returns : goal.returns
-returns c =
-    let a = c.args in
-    let e = same (goal.at.returns c).Joined-at-text in
-    subst (λ (l : List ℤ). RowIs (form_of a.form) a.left (kind_at a.kind) a.text.now a.at l c.open_by_table.new.nodes a.count (row_of c.open_by_table.result)) e c.open_by_table.ensures

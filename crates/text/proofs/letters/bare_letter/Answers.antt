@@ -1,7 +1,7 @@
 use mathlib.Core.Path.{refl}
 use Rattle.language.specs.Text.Letters.{amount_row, letter_among, payoff_row, plan_row, row_of, test_row}
 use Rattle.text.specs.Letters.{kind_at, kinds}
-use Rattle.text.proofs.LetterLaws.{bare_none, bare_row}
+use Rattle.text.proofs.LetterLaws.{bare_row}
 use Rattle.text.proofs.letters.bare_letter.Goals as goal
 
 pub returns-in-83 : goal.returns-in-83
@@ -51,6 +51,3 @@ returns-in-73 c = bare_row c.args.letter 73 174 c.in-73.is refl refl refl
 pub returns-in-82 : goal.returns-in-82
 unfolding letter_among row_of plan_row payoff_row amount_row test_row kinds kind_at
 returns-in-82 c = bare_row c.args.letter 82 15 c.in-82.is refl refl refl
-
-pub returns-in_default : goal.returns-in_default
-returns-in_default c = bare_none c.args.letter

@@ -6,10 +6,8 @@ use Rattle.fields.specs.Fields.{classes_of_three, classes_of_two}
 use Rattle.language.specs.Text.Letters.{AmountLetter, PayoffLetter, TestLetter, amount_row, letter_among, of_amount, of_root, of_test, payoff_form, payoff_row, row_of, test_row}
 use Rattle.text.specs.Letters.{kind_at, kinds}
 use Rattle.text.proofs.LetterLaws.{known, unknown}
-use borrow.Author.Rules.{rules}
 use Rattle.text.proofs.letters.payoff_shape.Goals as goal
 
--- a letter of none of the lines above
 pub returns-in_default : goal.returns-in_default
 unfolding letter_among row_of payoff_row amount_row test_row classes_of_three classes_of_two class_of kinds kind_at
 returns-in_default c =

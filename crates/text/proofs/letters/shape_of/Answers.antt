@@ -1,7 +1,6 @@
 use mathlib.Core.Path.{subst, sym}
 use Rattle.text.specs.Letters.{ShapeIs, form_of}
 use Rattle.text.specs.declared.letters.TextForm.{TextForm}
-use borrow.Author.Rules.{rules}
 use Rattle.text.proofs.letters.shape_of.Goals as goal
 
 pub returns-in-Plan : goal.returns-in-Plan

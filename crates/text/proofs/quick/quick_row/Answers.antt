@@ -1,4 +1,3 @@
-use borrow.Author.Rules.{rules}
 use native.Mathlib.Omega.{arith}
 use Rattle.text.proofs.QuickLaws.{bare_quick}
 use Rattle.text.proofs.quick.quick_row.Goals as goal

@@ -1,4 +1,3 @@
-use borrow.Author.Rules.{rules}
 use Rattle.text.proofs.LetterCounts.{letters_few}
 use Rattle.text.proofs.room.letters_at_most.Goals as goal
 

@@ -1,5 +1,4 @@
-use borrow.Author.Rules.{rules}
-use mathlib.Core.Path.{◌∙◌, ap, refl, subst, sym}
+use mathlib.Core.Path.{◌∙◌, ap, subst, sym}
 use native.Mathlib.Omega.{arith}
 use Rattle.text.proofs.LetterCounts.{letters_all}
 use Rattle.text.specs.Letters.{form_of, kind_at}
@@ -12,26 +11,12 @@ use Rattle.text.proofs.trees.open_by_table.Goals as goal
 pub put_opened-requires : goal.put_opened-requires
 put_opened-requires c =
     let p = c.requires in
-    let b = subst (OpenedIs _ _ _ _ _ _) c.in-Node.is c.open_any.ensures in
+    let b = subst (OpenedIs _ _ _ _ _ _) c.in-Ok.is c.open_any.ensures in
     p.2 _ b.room (omega (arith, p.3, letters_all c.args.text.now c.args.at))
 
-pub number_for-requires : goal.number_for-requires
-number_for-requires c =
-    let p = c.requires in
-    let b = subst (OpenedIs _ _ _ _ _ _) c.in-Node.is c.open_any.ensures in
-    (omega (arith, p.1, b.within), b.small.0, b.small.1, b.small.2)
-
-pub returns-in-Node : goal.returns-in-Node
-returns-in-Node c =
+pub returns-in-Err : goal.returns-in-Err
+returns-in-Err c =
     let a = c.args in
-    let h = c.in-Node.h in
-    let b = subst (OpenedIs _ _ _ _ _ _) c.in-Node.is c.open_any.ensures in
-    subst (RowIs (form_of a.form) a.left (kind_at a.kind) a.text.now a.at a.nodes.now _ a.count) (sym c.number_for.ensures)
-    (record { head = h; begun = b; behind = refl; children = refl; row = c.put_opened.ensures })
-
-pub returns-in-Closed : goal.returns-in-Closed
-returns-in-Closed c =
-    let a = c.args in
-    let k = c.in-Closed.refusal in
-    subst (RowIs (form_of a.form) a.left (kind_at a.kind) a.text.now a.at a.nodes.now a.nodes.now a.count) (sym (ap row_of c.number_of.ensures ∙ shut_number k))
-    (subst (OpenedIs _ _ _ _ _ _) c.in-Closed.is c.open_any.ensures)
+    let k = c.in-Err.refusal in
+    subst (RowIs (form_of a.form) a.left (kind_at a.kind) a.text.now a.at a.nodes.now a.nodes.now a.count) (sym (ap row_of (c.from-in-Err.ensures ∙ c.from.ensures) ∙ shut_number k))
+    (subst (OpenedIs _ _ _ _ _ _) c.in-Err.is c.open_any.ensures)

@@ -1,8 +1,5 @@
-use mathlib.Core.Path.{subst}
 use native.Mathlib.Omega.{arith}
 use Rattle.text.proofs.LetterCounts.{letters_all}
-use Rattle.text.specs.Letters.{form_of, kind_at}
-use Rattle.text.specs.Rows.{QuickIs}
 use Rattle.text.proofs.whole.open_row.Goals as goal
 
 pub quick_row-requires : goal.quick_row-requires
@@ -15,9 +12,3 @@ pub open_general-requires : goal.open_general-requires
 open_general-requires c =
     let p = c.requires in
     (p.0, p.1, λ n h k. omega (arith, p.2 n h k), p.3, p.4, p.5)
-
-pub returns-in-Opened : goal.returns-in-Opened
-returns-in-Opened c =
-    let a = c.args in
-    let o = subst (QuickIs (form_of a.form) (kind_at a.kind) a.text.now a.at a.nodes.now _ a.count) c.in-Opened.is c.quick_row.ensures in
-    record { head = o.head; begun = o.opens.is a.left a.count (omega arith) c.if-left-gt0.true; behind = o.behind; children = o.children; row = o.row }

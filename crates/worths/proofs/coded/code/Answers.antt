@@ -11,19 +11,19 @@ use Rattle.worths.specs.Answers.{worth_answer}
 use Rattle.worths.specs.Coded.{coded_worth}
 use Rattle.worths.proofs.coded.code.Goals as goal
 
-pub returns-in-Value : goal.returns-in-Value
-returns-in-Value c =
-    let e = ap worth_answer c.in-Value.is in
+pub returns-in-Ok : goal.returns-in-Ok
+returns-in-Ok c =
+    let e = ap worth_answer c.in-Ok.is in
     let s = c.requires.value _ e in
     ap coded_worth (to_z-of_z (value_fits s)) ∙ stands_value max_value _ s.small ∙ sym e
 
 pub returns-then-number_of-eq11 : goal.returns-then-number_of-eq11
 returns-then-number_of-eq11 c =
-    let e = ap worth_answer c.in-Refused.is in
+    let e = ap worth_answer c.in-Err.is in
     stands_unread max_value _ refl ∙ ap refused (sym c.if-number_of-eq11.true ∙ c.number_of.ensures) ∙ sym e
 
 pub returns-else-number_of-eq11 : goal.returns-else-number_of-eq11
 returns-else-number_of-eq11 c =
-    let e = ap worth_answer c.in-Refused.is in
-    let n : number_of c.in-Refused.k ≡ 14 = ⊎_elim (λ z. absurd (c.if-number_of-eq11.false (c.number_of.ensures ∙ z))) (λ z. z) (c.requires.refusal _ e) in
+    let e = ap worth_answer c.in-Err.is in
+    let n : number_of c.in-Err.k ≡ 14 = ⊎_elim (λ z. absurd (c.if-number_of-eq11.false (c.number_of.ensures ∙ z))) (λ z. z) (c.requires.refusal _ e) in
     stands_beyond max_value _ (omega arith) (λ z. omega (arith, z)) ∙ ap refused (sym n) ∙ sym e

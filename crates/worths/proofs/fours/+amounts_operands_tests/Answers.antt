@@ -18,14 +18,14 @@ use Rattle.worths.proofs.fours.+amounts_operands_tests.Goals.{amounts-After-amou
 
 -- what is known in the arm of letter l
 amounts_here : (t : ℕ) (c : amounts-After-amount_letter-letter t) (l : AmountLetter) → c.amount_letter-letter.result ≡ l
-    → AmountNode c.args.nodes.now.now c.args.left c.args.at l
+    → AmountNode c.args.lent.now.nodes.now c.args.left c.args.at l
 amounts_here t c l e =
     let f : SFits w64 c.slot.result = search rules in
     let p = c.requires in
-    amount_node f c.slot.ensures p.2 p.3 c.amount_letter-letter.ensures e
+    amount_node f c.slot.ensures p.1 p.2 c.amount_letter-letter.ensures e
 
 pub amounts-slot-requires : goal.amounts-slot-requires
-amounts-slot-requires t c = (amount_inside _ _ _ c.requires.2, omega arith)
+amounts-slot-requires t c = (amount_inside _ _ _ c.requires.1, omega arith)
 
 pub amounts-number-requires : goal.amounts-number-requires
 unfolding fields_of_amount
@@ -37,7 +37,7 @@ pub amounts-reading-requires : goal.amounts-reading-requires
 unfolding fields_of_amount
 amounts-reading-requires t c =
     let n = amounts_here t (goal.at.amounts-reading-requires t c).After-amount_letter-letter amount.Index c.in-Index.is in
-    (n.inside, c.requires.0, c.requires.1, n.fields.1)
+    (n.inside, c.requires.0, n.fields.1)
 
 pub amounts-overflow_add-at : goal.amounts-overflow_add-at
 amounts-overflow_add-at t c =
@@ -53,7 +53,7 @@ pub amounts-operands-x-requires : goal.amounts-operands-x-requires
 unfolding fields_of_amount
 amounts-operands-x-requires t c =
     let n = amounts_here t (goal.at.amounts-operands-x-requires t c).After-amount_letter-letter amount.Sum c.in-Sum.is in
-    (omega (arith, n.some), (c.requires.0, c.requires.1, n.stands.0, n.fields.0))
+    (omega (arith, n.some), (c.requires.0, n.stands.0, n.fields.0))
 
 pub amounts-link-requires : goal.amounts-link-requires
 amounts-link-requires t c =
@@ -69,10 +69,10 @@ pub amounts-operands-y-requires : goal.amounts-operands-y-requires
 unfolding fields_of_amount
 amounts-operands-y-requires t c =
     let n = amounts_here t (goal.at.amounts-operands-y-requires t c).After-amount_letter-letter amount.Sum c.in-Sum.is in
-    (omega (arith, n.some), rw c.link.ensures (c.requires.0, c.requires.1, n.stands.1.1, n.fields.1))
+    (omega (arith, n.some), rw c.link.ensures (c.requires.0, n.stands.1.1, n.fields.1))
 
 pub amounts-sum_of-requires : goal.amounts-sum_of-requires
-amounts-sum_of-requires t c = (sure_small c.args.h.0 c.args.f.0 c.args.bounds.now.now c.args.values.now.now _ _ _ c.operands-x.ensures, sure_small c.args.h.0 c.args.f.0 c.args.bounds.now.now c.args.values.now.now _ _ _ c.operands-y.ensures)
+amounts-sum_of-requires t c = (sure_small c.args.lent.now.span.h c.args.lent.now.span.f c.args.lent.now.bounds.now c.args.lent.now.values.now _ _ _ c.operands-x.ensures, sure_small c.args.lent.now.span.h c.args.lent.now.span.f c.args.lent.now.bounds.now c.args.lent.now.values.now _ _ _ c.operands-y.ensures)
 
 pub amounts-overflow_add-at-in-Difference : goal.amounts-overflow_add-at-in-Difference
 amounts-overflow_add-at-in-Difference t c =
@@ -88,7 +88,7 @@ pub amounts-operands-x-requires-in-Difference : goal.amounts-operands-x-requires
 unfolding fields_of_amount
 amounts-operands-x-requires-in-Difference t c =
     let n = amounts_here t (goal.at.amounts-operands-x-requires-in-Difference t c).After-amount_letter-letter amount.Difference c.in-Difference.is in
-    (omega (arith, n.some), (c.requires.0, c.requires.1, n.stands.0, n.fields.0))
+    (omega (arith, n.some), (c.requires.0, n.stands.0, n.fields.0))
 
 pub amounts-link-requires-in-Difference : goal.amounts-link-requires-in-Difference
 amounts-link-requires-in-Difference t c =
@@ -104,10 +104,10 @@ pub amounts-operands-y-requires-in-Difference : goal.amounts-operands-y-requires
 unfolding fields_of_amount
 amounts-operands-y-requires-in-Difference t c =
     let n = amounts_here t (goal.at.amounts-operands-y-requires-in-Difference t c).After-amount_letter-letter amount.Difference c.in-Difference.is in
-    (omega (arith, n.some), rw c.link-in-Difference.ensures (c.requires.0, c.requires.1, n.stands.1.1, n.fields.1))
+    (omega (arith, n.some), rw c.link-in-Difference.ensures (c.requires.0, n.stands.1.1, n.fields.1))
 
 pub amounts-difference_of-requires : goal.amounts-difference_of-requires
-amounts-difference_of-requires t c = (sure_small c.args.h.0 c.args.f.0 c.args.bounds.now.now c.args.values.now.now _ _ _ c.operands-x-in-Difference.ensures, sure_small c.args.h.0 c.args.f.0 c.args.bounds.now.now c.args.values.now.now _ _ _ c.operands-y-in-Difference.ensures)
+amounts-difference_of-requires t c = (sure_small c.args.lent.now.span.h c.args.lent.now.span.f c.args.lent.now.bounds.now c.args.lent.now.values.now _ _ _ c.operands-x-in-Difference.ensures, sure_small c.args.lent.now.span.h c.args.lent.now.span.f c.args.lent.now.bounds.now c.args.lent.now.values.now _ _ _ c.operands-y-in-Difference.ensures)
 
 pub amounts-overflow_add-at-in-Product : goal.amounts-overflow_add-at-in-Product
 amounts-overflow_add-at-in-Product t c =
@@ -123,7 +123,7 @@ pub amounts-operands-x-requires-in-Product : goal.amounts-operands-x-requires-in
 unfolding fields_of_amount
 amounts-operands-x-requires-in-Product t c =
     let n = amounts_here t (goal.at.amounts-operands-x-requires-in-Product t c).After-amount_letter-letter amount.Product c.in-Product.is in
-    (omega (arith, n.some), (c.requires.0, c.requires.1, n.stands.0, n.fields.0))
+    (omega (arith, n.some), (c.requires.0, n.stands.0, n.fields.0))
 
 pub amounts-link-requires-in-Product : goal.amounts-link-requires-in-Product
 amounts-link-requires-in-Product t c =
@@ -139,10 +139,10 @@ pub amounts-operands-y-requires-in-Product : goal.amounts-operands-y-requires-in
 unfolding fields_of_amount
 amounts-operands-y-requires-in-Product t c =
     let n = amounts_here t (goal.at.amounts-operands-y-requires-in-Product t c).After-amount_letter-letter amount.Product c.in-Product.is in
-    (omega (arith, n.some), rw c.link-in-Product.ensures (c.requires.0, c.requires.1, n.stands.1.1, n.fields.1))
+    (omega (arith, n.some), rw c.link-in-Product.ensures (c.requires.0, n.stands.1.1, n.fields.1))
 
 pub amounts-product_of-requires : goal.amounts-product_of-requires
-amounts-product_of-requires t c = (sure_small c.args.h.0 c.args.f.0 c.args.bounds.now.now c.args.values.now.now _ _ _ c.operands-x-in-Product.ensures, sure_small c.args.h.0 c.args.f.0 c.args.bounds.now.now c.args.values.now.now _ _ _ c.operands-y-in-Product.ensures)
+amounts-product_of-requires t c = (sure_small c.args.lent.now.span.h c.args.lent.now.span.f c.args.lent.now.bounds.now c.args.lent.now.values.now _ _ _ c.operands-x-in-Product.ensures, sure_small c.args.lent.now.span.h c.args.lent.now.span.f c.args.lent.now.bounds.now c.args.lent.now.values.now _ _ _ c.operands-y-in-Product.ensures)
 
 pub amounts-overflow_add-at-in-Quotient : goal.amounts-overflow_add-at-in-Quotient
 amounts-overflow_add-at-in-Quotient t c =
@@ -158,13 +158,13 @@ pub amounts-operands-x-requires-in-Quotient : goal.amounts-operands-x-requires-i
 unfolding fields_of_amount
 amounts-operands-x-requires-in-Quotient t c =
     let n = amounts_here t (goal.at.amounts-operands-x-requires-in-Quotient t c).After-amount_letter-letter amount.Quotient c.in-Quotient.is in
-    (omega (arith, n.some), (c.requires.0, c.requires.1, n.stands, n.fields.2))
+    (omega (arith, n.some), (c.requires.0, n.stands, n.fields.2))
 
 pub amounts-over-requires : goal.amounts-over-requires
 unfolding fields_of_amount
 amounts-over-requires t c =
     let n = amounts_here t (goal.at.amounts-over-requires t c).After-amount_letter-letter amount.Quotient c.in-Quotient.is in
-    (n.inside, record { some = n.fields.0; small = n.fields.1 }, sure_small c.args.h.0 c.args.f.0 c.args.bounds.now.now c.args.values.now.now _ _ _ c.operands-x-in-Quotient.ensures)
+    (n.inside, record { some = n.fields.0; small = n.fields.1 }, sure_small c.args.lent.now.span.h c.args.lent.now.span.f c.args.lent.now.bounds.now c.args.lent.now.values.now _ _ _ c.operands-x-in-Quotient.ensures)
 
 pub amounts-overflow_add-at-in-Choose : goal.amounts-overflow_add-at-in-Choose
 amounts-overflow_add-at-in-Choose t c =
@@ -180,7 +180,7 @@ pub amounts-tests-t-requires : goal.amounts-tests-t-requires
 unfolding fields_of_amount
 amounts-tests-t-requires t c =
     let n = amounts_here t (goal.at.amounts-tests-t-requires t c).After-amount_letter-letter amount.Choose c.in-Choose.is in
-    (omega (arith, n.some), (c.requires.0, c.requires.1, n.stands.0, n.fields.0))
+    (omega (arith, n.some), (c.requires.0, n.stands.0, n.fields.0))
 
 pub amounts-link-requires-in-Choose : goal.amounts-link-requires-in-Choose
 amounts-link-requires-in-Choose t c =
@@ -196,7 +196,7 @@ pub amounts-operands-x-requires-in-Choose : goal.amounts-operands-x-requires-in-
 unfolding fields_of_amount
 amounts-operands-x-requires-in-Choose t c =
     let n = amounts_here t (goal.at.amounts-operands-x-requires-in-Choose t c).After-amount_letter-letter amount.Choose c.in-Choose.is in
-    (omega (arith, n.some), rw c.link-in-Choose.ensures (c.requires.0, c.requires.1, n.stands.1.1, n.fields.1))
+    (omega (arith, n.some), rw c.link-in-Choose.ensures (c.requires.0, n.stands.1.1, n.fields.1))
 
 pub amounts-link-requires-in-Choose-2 : goal.amounts-link-requires-in-Choose-2
 amounts-link-requires-in-Choose-2 t c =
@@ -212,7 +212,7 @@ pub amounts-operands-y-requires-in-Choose : goal.amounts-operands-y-requires-in-
 unfolding fields_of_amount
 amounts-operands-y-requires-in-Choose t c =
     let n = amounts_here t (goal.at.amounts-operands-y-requires-in-Choose t c).After-amount_letter-letter amount.Choose c.in-Choose.is in
-    (omega (arith, n.some), rw c.link-in-Choose-2.ensures (c.requires.0, c.requires.1, n.stands.2.1, n.fields.2))
+    (omega (arith, n.some), rw c.link-in-Choose-2.ensures (c.requires.0, n.stands.2.1, n.fields.2))
 
 pub amounts-returns-in-Number : goal.amounts-returns-in-Number
 amounts-returns-in-Number t c =
@@ -263,7 +263,7 @@ pub amounts-returns-in-NoAmount : goal.amounts-returns-in-NoAmount
 amounts-returns-in-NoAmount t c = λ e. absurd (c.unsure.ensures e)
 
 pub operands-slot-x-requires : goal.operands-slot-x-requires
-operands-slot-x-requires t c = (amount_inside _ _ _ c.requires.2, omega arith)
+operands-slot-x-requires t c = (amount_inside _ _ _ c.requires.1, omega arith)
 
 pub operands-leaves-requires : goal.operands-leaves-requires
 operands-leaves-requires t c = c.requires
@@ -279,14 +279,14 @@ operands-returns-in_default t c = c.amounts.ensures
 
 -- what is known in the arm of letter l
 tests_here : (t : ℕ) (c : tests-After-test_letter-letter t) (l : TestLetter) → c.test_letter-letter.result ≡ l
-    → TestNode c.args.nodes.now.now c.args.left c.args.at l
+    → TestNode c.args.lent.now.nodes.now c.args.left c.args.at l
 tests_here t c l e =
     let f : SFits w64 c.slot.result = search rules in
     let p = c.requires in
-    test_node f c.slot.ensures p.2 p.3 c.test_letter-letter.ensures e
+    test_node f c.slot.ensures p.1 p.2 c.test_letter-letter.ensures e
 
 pub tests-slot-requires : goal.tests-slot-requires
-tests-slot-requires t c = (test_inside _ _ _ c.requires.2, omega arith)
+tests-slot-requires t c = (test_inside _ _ _ c.requires.1, omega arith)
 
 pub tests-overflow_add-at : goal.tests-overflow_add-at
 tests-overflow_add-at t c =
@@ -302,7 +302,7 @@ pub tests-operands-x-requires : goal.tests-operands-x-requires
 unfolding fields_of_test
 tests-operands-x-requires t c =
     let n = tests_here t (goal.at.tests-operands-x-requires t c).After-test_letter-letter test.Less c.in-Less.is in
-    (omega (arith, n.some), (c.requires.0, c.requires.1, n.stands.0, n.fields.0))
+    (omega (arith, n.some), (c.requires.0, n.stands.0, n.fields.0))
 
 pub tests-link-requires : goal.tests-link-requires
 tests-link-requires t c =
@@ -318,7 +318,7 @@ pub tests-operands-y-requires : goal.tests-operands-y-requires
 unfolding fields_of_test
 tests-operands-y-requires t c =
     let n = tests_here t (goal.at.tests-operands-y-requires t c).After-test_letter-letter test.Less c.in-Less.is in
-    (omega (arith, n.some), rw c.link.ensures (c.requires.0, c.requires.1, n.stands.1.1, n.fields.1))
+    (omega (arith, n.some), rw c.link.ensures (c.requires.0, n.stands.1.1, n.fields.1))
 
 pub tests-overflow_add-at-in-Equal : goal.tests-overflow_add-at-in-Equal
 tests-overflow_add-at-in-Equal t c =
@@ -334,7 +334,7 @@ pub tests-operands-x-requires-in-Equal : goal.tests-operands-x-requires-in-Equal
 unfolding fields_of_test
 tests-operands-x-requires-in-Equal t c =
     let n = tests_here t (goal.at.tests-operands-x-requires-in-Equal t c).After-test_letter-letter test.Equal c.in-Equal.is in
-    (omega (arith, n.some), (c.requires.0, c.requires.1, n.stands.0, n.fields.0))
+    (omega (arith, n.some), (c.requires.0, n.stands.0, n.fields.0))
 
 pub tests-link-requires-in-Equal : goal.tests-link-requires-in-Equal
 tests-link-requires-in-Equal t c =
@@ -350,7 +350,7 @@ pub tests-operands-y-requires-in-Equal : goal.tests-operands-y-requires-in-Equal
 unfolding fields_of_test
 tests-operands-y-requires-in-Equal t c =
     let n = tests_here t (goal.at.tests-operands-y-requires-in-Equal t c).After-test_letter-letter test.Equal c.in-Equal.is in
-    (omega (arith, n.some), rw c.link-in-Equal.ensures (c.requires.0, c.requires.1, n.stands.1.1, n.fields.1))
+    (omega (arith, n.some), rw c.link-in-Equal.ensures (c.requires.0, n.stands.1.1, n.fields.1))
 
 pub tests-overflow_add-at-in-Conjunction : goal.tests-overflow_add-at-in-Conjunction
 tests-overflow_add-at-in-Conjunction t c =
@@ -366,7 +366,7 @@ pub tests-tests-x-requires : goal.tests-tests-x-requires
 unfolding fields_of_test
 tests-tests-x-requires t c =
     let n = tests_here t (goal.at.tests-tests-x-requires t c).After-test_letter-letter test.Conjunction c.in-Conjunction.is in
-    (omega (arith, n.some), (c.requires.0, c.requires.1, n.stands.0, n.fields.0))
+    (omega (arith, n.some), (c.requires.0, n.stands.0, n.fields.0))
 
 pub tests-link-requires-in-Conjunction : goal.tests-link-requires-in-Conjunction
 tests-link-requires-in-Conjunction t c =
@@ -382,7 +382,7 @@ pub tests-tests-y-requires : goal.tests-tests-y-requires
 unfolding fields_of_test
 tests-tests-y-requires t c =
     let n = tests_here t (goal.at.tests-tests-y-requires t c).After-test_letter-letter test.Conjunction c.in-Conjunction.is in
-    (omega (arith, n.some), rw c.link-in-Conjunction.ensures (c.requires.0, c.requires.1, n.stands.1.1, n.fields.1))
+    (omega (arith, n.some), rw c.link-in-Conjunction.ensures (c.requires.0, n.stands.1.1, n.fields.1))
 
 pub tests-overflow_add-at-in-Disjunction : goal.tests-overflow_add-at-in-Disjunction
 tests-overflow_add-at-in-Disjunction t c =
@@ -398,7 +398,7 @@ pub tests-tests-x-requires-in-Disjunction : goal.tests-tests-x-requires-in-Disju
 unfolding fields_of_test
 tests-tests-x-requires-in-Disjunction t c =
     let n = tests_here t (goal.at.tests-tests-x-requires-in-Disjunction t c).After-test_letter-letter test.Disjunction c.in-Disjunction.is in
-    (omega (arith, n.some), (c.requires.0, c.requires.1, n.stands.0, n.fields.0))
+    (omega (arith, n.some), (c.requires.0, n.stands.0, n.fields.0))
 
 pub tests-link-requires-in-Disjunction : goal.tests-link-requires-in-Disjunction
 tests-link-requires-in-Disjunction t c =
@@ -414,7 +414,7 @@ pub tests-tests-y-requires-in-Disjunction : goal.tests-tests-y-requires-in-Disju
 unfolding fields_of_test
 tests-tests-y-requires-in-Disjunction t c =
     let n = tests_here t (goal.at.tests-tests-y-requires-in-Disjunction t c).After-test_letter-letter test.Disjunction c.in-Disjunction.is in
-    (omega (arith, n.some), rw c.link-in-Disjunction.ensures (c.requires.0, c.requires.1, n.stands.1.1, n.fields.1))
+    (omega (arith, n.some), rw c.link-in-Disjunction.ensures (c.requires.0, n.stands.1.1, n.fields.1))
 
 pub tests-overflow_add-at-in-Negation : goal.tests-overflow_add-at-in-Negation
 tests-overflow_add-at-in-Negation t c =
@@ -430,7 +430,7 @@ pub tests-tests-x-requires-in-Negation : goal.tests-tests-x-requires-in-Negation
 unfolding fields_of_test
 tests-tests-x-requires-in-Negation t c =
     let n = tests_here t (goal.at.tests-tests-x-requires-in-Negation t c).After-test_letter-letter test.Negation c.in-Negation.is in
-    (omega (arith, n.some), (c.requires.0, c.requires.1, n.stands, n.fields))
+    (omega (arith, n.some), (c.requires.0, n.stands, n.fields))
 
 pub tests-returns-in-Less : goal.tests-returns-in-Less
 tests-returns-in-Less t c =

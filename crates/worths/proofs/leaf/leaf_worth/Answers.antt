@@ -20,7 +20,7 @@ returns-then-earlier c =
     let e = leaf.code_month c.later-month.ensures c.month_at.ensures c.requires.2 in
     let fm = leaf.month_fits e c.requires.4 c.requires.2 in
     let b = leaf.month_tested ff fm e c.month_ok.ensures c.if-month_ok.true in
-    leaf.cut_off a.f.0 a.factors.now.now c.requires.1 a.start.0 _ _ b (ap (λ z. lt_z z a.start.0) (sym e) ∙ sym c.earlier.ensures ∙ c.if-earlier.true)
+    leaf.cut_off a.f.0 a.factors.now c.requires.1 a.start.0 _ _ b (ap (λ z. lt_z z a.start.0) (sym e) ∙ sym c.earlier.ensures ∙ c.if-earlier.true)
 
 pub factor-requires : goal.factor-requires
 factor-requires c =
@@ -29,13 +29,13 @@ factor-requires c =
     let e = leaf.code_month c.later-month.ensures c.month_at.ensures c.requires.2 in
     let fm = leaf.month_fits e c.requires.4 c.requires.2 in
     let b = leaf.month_tested ff fm e c.month_ok.ensures c.if-month_ok.true in
-    leaf.factor_in a.f.0 a.factors.now.now c.requires.1 a.start.0 _ a.start.0 b e
+    leaf.factor_in a.f.0 a.factors.now c.requires.1 a.start.0 _ a.start.0 b e
 
 pub value_times-value-requires : goal.value_times-value-requires
 value_times-value-requires c =
     let a = c.args in
     let e = leaf.code_month c.later-month.ensures c.month_at.ensures c.requires.2 in
-    leaf.product_small a.f.0 a.factors.now.now c.requires.1 a.start.0 _ _ (unit_one (nat_abs a.pair.p) (nat_abs a.pair.q) _ _) e c.penny-sign.ensures c.factor.ensures
+    leaf.product_small a.f.0 a.factors.now c.requires.1 a.start.0 _ _ (unit_one (nat_abs a.pair.p) (nat_abs a.pair.q) _ _) e c.penny-sign.ensures c.factor.ensures
 
 pub returns-then-month_ok : goal.returns-then-month_ok
 returns-then-month_ok c =
@@ -44,7 +44,7 @@ returns-then-month_ok c =
     let e = leaf.code_month c.later-month.ensures c.month_at.ensures c.requires.2 in
     let fm = leaf.month_fits e c.requires.4 c.requires.2 in
     let b = leaf.month_tested ff fm e c.month_ok.ensures c.if-month_ok.true in
-    leaf.paid a.f.0 a.factors.now.now c.requires.1 a.start.0 _ _ (unit_one (nat_abs a.pair.p) (nat_abs a.pair.q) _ _) e c.penny-sign.ensures c.factor.ensures b (ap (λ z. lt_z z a.start.0) (sym e) ∙ sym c.earlier.ensures ∙ c.if-earlier.false) c.value_times-value.ensures
+    leaf.paid a.f.0 a.factors.now c.requires.1 a.start.0 _ _ (unit_one (nat_abs a.pair.p) (nat_abs a.pair.q) _ _) e c.penny-sign.ensures c.factor.ensures b (ap (λ z. lt_z z a.start.0) (sym e) ∙ sym c.earlier.ensures ∙ c.if-earlier.false) c.value_times-value.ensures
 
 pub returns : goal.returns
 returns c =
@@ -52,4 +52,4 @@ returns c =
     let ff : SFits w64 a.f.0 = search rules in
     let e = leaf.code_month c.later-month.ensures c.month_at.ensures c.requires.2 in
     let fm = leaf.month_fits e c.requires.4 c.requires.2 in
-    leaf.out_of_table a.f.0 a.factors.now.now c.requires.1 a.start.0 _ _ (leaf.month_tested ff fm e c.month_ok.ensures c.if-month_ok.false)
+    leaf.out_of_table a.f.0 a.factors.now c.requires.1 a.start.0 _ _ (leaf.month_tested ff fm e c.month_ok.ensures c.if-month_ok.false)

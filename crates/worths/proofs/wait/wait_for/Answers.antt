@@ -11,29 +11,29 @@ use Rattle.worths.proofs.wait.wait_for.Goals as goal
 pub later-last-requires : goal.later-last-requires
 later-last-requires c =
     let p = c.requires in
-    (waiting.small_month _ p.1.first_known (omega (arith, p.1.within)), waiting.small_month _ p.1.delay_known (omega (arith, p.1.within)))
+    (waiting.small_month _ p.0.first_known (omega (arith, p.0.within)), waiting.small_month _ p.0.delay_known (omega (arith, p.0.within)))
 
 pub loop-next-init : goal.loop-next-init
-loop-next-init c = waiting.start _ _ _ _ c.requires.1 c.later-last.ensures
+loop-next-init c = waiting.start _ _ _ _ c.requires.0 c.later-last.ensures
 
 pub later-next-requires : goal.later-next-requires
 later-next-requires c =
     let p = c.requires in
-    (waiting.month_small _ _ _ _ p.1 c.later-last.ensures _ c.loop-next.invariant, few_small 4 (omega arith))
+    (waiting.month_small _ _ _ _ p.0 c.later-last.ensures _ c.loop-next.invariant, few_small 4 (omega arith))
 
 pub between-requires : goal.between-requires
 between-requires c =
     let p = c.requires in
     let e = c.later-last.ensures in
     let i = c.loop-next.invariant in
-    fours.rest_small _ _ _ _ p.1 e _ i _ refl
+    fours.rest_small _ _ _ _ p.0 e _ i _ refl
 
 pub wait_singly-requires : goal.wait_singly-requires
 wait_singly-requires c =
     let p = c.requires in
     let e = c.later-last.ensures in
     let i = c.loop-next.invariant in
-    (p.0, fours.rest_months _ _ _ _ p.1 e _ i _ c.between.ensures, p.2, p.3)
+    (fours.rest_months _ _ _ _ p.0 e _ i _ c.between.ensures, p.1, p.2)
 
 pub tests-t-requires : goal.tests-t-requires
 tests-t-requires c =
@@ -42,7 +42,7 @@ tests-t-requires c =
     let i = c.loop-next.invariant in
     let fl : SFits w64 c.later-last.result.0 = search rules in
     let fn : SFits w64 c.later-next.result.0 = search rules in
-    (p.0, fours.four_waited _ _ _ _ p.1 e _ i _ c.later-next.ensures fl fn c.if-last-next.false, p.2, p.3)
+    (fours.four_waited _ _ _ _ p.0 e _ i _ c.later-next.ensures fl fn c.if-last-next.false, p.1, p.2)
 
 pub first_held-k-requires : goal.first_held-k-requires
 first_held-k-requires c = tt
@@ -55,7 +55,7 @@ later-requires c =
     let fl : SFits w64 c.later-last.result.0 = search rules in
     let fn : SFits w64 c.later-next.result.0 = search rules in
     let fk : SFits w64 c.first_held-k.result.0 = search rules in
-    (waiting.month_small _ _ _ _ p.1 e _ i, fours.first_small _ _ _ _ p.1 e _ i _ c.later-next.ensures fl fn c.if-last-next.false _ (c.tests-t.ensures c.if-t.true) _ c.first_held-k.ensures fk c.if-k-lt4.true)
+    (waiting.month_small _ _ _ _ p.0 e _ i, fours.first_small _ _ _ _ p.0 e _ i _ c.later-next.ensures fl fn c.if-last-next.false _ (c.tests-t.ensures c.if-t.true) _ c.first_held-k.ensures fk c.if-k-lt4.true)
 
 pub loop-next-smaller : goal.loop-next-smaller
 loop-next-smaller c =
@@ -64,7 +64,7 @@ loop-next-smaller c =
     let i = c.loop-next.invariant in
     let fl : SFits w64 c.later-last.result.0 = search rules in
     let fn : SFits w64 c.later-next.result.0 = search rules in
-    fours.falls _ _ _ _ p.1 e _ i _ c.later-next.ensures fl fn c.if-last-next.false
+    fours.falls _ _ _ _ p.0 e _ i _ c.later-next.ensures fl fn c.if-last-next.false
 
 pub loop-next-preserved : goal.loop-next-preserved
 loop-next-preserved c =
@@ -74,28 +74,28 @@ loop-next-preserved c =
     let fl : SFits w64 c.later-last.result.0 = search rules in
     let fn : SFits w64 c.later-next.result.0 = search rules in
     let fk : SFits w64 c.first_held-k.result.0 = search rules in
-    fours.again _ _ _ _ p.1 e _ i _ c.later-next.ensures fl fn c.if-last-next.false _ (c.tests-t.ensures c.if-t.true) _ c.first_held-k.ensures fk c.if-k-lt4.false
+    fours.again _ _ _ _ p.0 e _ i _ c.later-next.ensures fl fn c.if-last-next.false _ (c.tests-t.ensures c.if-t.true) _ c.first_held-k.ensures fk c.if-k-lt4.false
 
 pub between-requires-else-t : goal.between-requires-else-t
 between-requires-else-t c =
     let p = c.requires in
     let e = c.later-last.ensures in
     let i = c.loop-next.invariant in
-    fours.rest_small _ _ _ _ p.1 e _ i _ refl
+    fours.rest_small _ _ _ _ p.0 e _ i _ refl
 
 pub wait_singly-requires-else-t : goal.wait_singly-requires-else-t
 wait_singly-requires-else-t c =
     let p = c.requires in
     let e = c.later-last.ensures in
     let i = c.loop-next.invariant in
-    (p.0, fours.rest_months _ _ _ _ p.1 e _ i _ c.between-else-t.ensures, p.2, p.3)
+    (fours.rest_months _ _ _ _ p.0 e _ i _ c.between-else-t.ensures, p.1, p.2)
 
 pub returns-then-last-next : goal.returns-then-last-next
 returns-then-last-next c =
     let p = c.requires in
     let e = c.later-last.ensures in
     let i = c.loop-next.invariant in
-    let r = fours.rest_waits _ _ _ _ p.1 e _ i _ c.between.ensures c.wait_singly.result (c.wait_singly.ensures.is, c.wait_singly.ensures.known) in
+    let r = fours.rest_waits _ _ _ _ p.0 e _ i _ c.between.ensures c.wait_singly.result (c.wait_singly.ensures.is, c.wait_singly.ensures.known) in
     record { is = r.0; known = r.1 }
 
 pub returns-then-k-lt4 : goal.returns-then-k-lt4
@@ -106,7 +106,7 @@ returns-then-k-lt4 c =
     let fl : SFits w64 c.later-last.result.0 = search rules in
     let fn : SFits w64 c.later-next.result.0 = search rules in
     let fk : SFits w64 c.first_held-k.result.0 = search rules in
-    let r = fours.held _ _ _ _ p.1 e _ i _ c.later-next.ensures fl fn c.if-last-next.false _ (c.tests-t.ensures c.if-t.true) _ c.first_held-k.ensures fk c.if-k-lt4.true _ c.later.ensures in
+    let r = fours.held _ _ _ _ p.0 e _ i _ c.later-next.ensures fl fn c.if-last-next.false _ (c.tests-t.ensures c.if-t.true) _ c.first_held-k.ensures fk c.if-k-lt4.true _ c.later.ensures in
     record { is = r.0; known = r.1 }
 
 pub returns-else-t : goal.returns-else-t
@@ -114,5 +114,5 @@ returns-else-t c =
     let p = c.requires in
     let e = c.later-last.ensures in
     let i = c.loop-next.invariant in
-    let r = fours.rest_waits _ _ _ _ p.1 e _ i _ c.between-else-t.ensures c.wait_singly-else-t.result (c.wait_singly-else-t.ensures.is, c.wait_singly-else-t.ensures.known) in
+    let r = fours.rest_waits _ _ _ _ p.0 e _ i _ c.between-else-t.ensures c.wait_singly-else-t.result (c.wait_singly-else-t.ensures.is, c.wait_singly-else-t.ensures.known) in
     record { is = r.0; known = r.1 }

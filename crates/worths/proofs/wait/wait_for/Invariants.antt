@@ -6,7 +6,7 @@ use Rattle.checked.specs.Checked.{test_in}
 use Rattle.worths.proofs.wait.wait_for.Given as goal
 
 abbrev pub invariant-loop-next : goal.invariant-loop-next
-invariant-loop-next l = waiting.Waiting (test_in l.h.0 l.f.0 l.bounds.now l.values.now (test_at offset_of l.left l.nodes.now l.at)) l.initial.month.0 l.last.0 l.month.0
+invariant-loop-next l = waiting.Waiting (test_in l.lent.span.h l.lent.span.f l.lent.bounds.now l.lent.values.now (test_at offset_of l.left l.lent.nodes.now l.at)) l.initial.month.0 l.last.0 l.month.0
 
 abbrev pub decreases-loop-next : goal.decreases-loop-next
 decreases-loop-next l = nat_of l.last.0 - nat_of l.month.0
