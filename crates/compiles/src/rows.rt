@@ -57,7 +57,7 @@ fn put_index(nodes: &mut [i64], count: usize, at: usize, plain: Month, digits: M
     )
 }
 
-fn compile_row(nodes: &mut [i64], count: usize, at: usize, plain: Month, digits: Month) -> usize
+pub fn compile_row(nodes: &mut [i64], count: usize, at: usize, plain: Month, digits: Month) -> usize
     requires { (nat_abs plain.0 ≤ 19_200) × RowIn nodes.old at × (count ≤ at) }
     ensures { Appended nodes.old nodes.new count result (compiled_row plain.0 digits.0 (row_from (at * 5) nodes.old)) }
 {

@@ -1,5 +1,5 @@
 -- The classes of fields as the code has them, and the range of each class of numbers.
-use Rattle.std.specs.Prelude.{◌+◌, ◌-◌, ◌≤◌, ℕ, nat_abs, neg_ℤ, pos, ℤ, length, List, ◌≡◌, None, Some}
+use Rattle.std.specs.Prelude.{◌+◌, ◌-◌, ◌≤◌, ℕ, cond, eqb, nat_abs, neg_ℤ, pos, ℤ, length, List, ◌≡◌, None, Some}
 use Rattle.std.proofs.Math.Option.{none, some}
 use Rattle.language.specs.Limits.{max_amount, max_back, max_labels, max_months, max_party}
 use Rattle.language.specs.Text.Classes.{ranged}
@@ -10,6 +10,16 @@ use Rattle.fields.specs.declared.field.Class.TheVariants.{Delay, Divisor, Figure
 use Rattle.fields.specs.declared.field.Range.{Range}
 use Rattle.fields.specs.declared.numbers.Number.{Number}
 use Rattle.std.specs.Prelude as std
+
+-- 1 figure, 2 delay, 4 label, 5 months from the node, 6 divisor, 7 month, any other a party
+unfoldable pub class_numbered : ℕ → coded.Class
+class_numbered n =
+    cond (eqb n 1) Figure
+    (cond (eqb n 2) Delay
+    (cond (eqb n 4) Label
+    (cond (eqb n 5) FromNode
+    (cond (eqb n 6) Divisor
+    (cond (eqb n 7) Month Party)))))
 
 -- of a field that is one number (a month is read apart)
 unfoldable pub class_of : coded.Class → Class

@@ -2,7 +2,7 @@
 ghost use Rattle.std.specs.Prelude.{◌≡◌, true, List, [], ℕ, ◌+◌, ◌≤◌, ◌<◌, length, drop, get_or};
 ghost use Rattle.fields.specs.Positions.{up_to};
 ghost use Rattle.fields.specs.declared.field.Class.TheVariants.{Delay};
-ghost use Rattle.fields.specs.Classes.{class_of, range_of, Limited, RangedIs};
+ghost use Rattle.fields.specs.Classes.{class_numbered, class_of, range_of, Limited, RangedIs};
 ghost use Rattle.fields.specs.Fields.{DigitIs, TakenIs, TriedIs};
 ghost use Rattle.fields.specs.Numbers.{NumberIs};
 
@@ -19,6 +19,24 @@ pub enum Class {
     FromNode,
     Divisor,
     Month,
+}
+
+// Each number stands for a class: a caller with a number has a field read as one with a name has.
+impl From<u8> for Class {
+    ghost from_gives = { λ n c. c ≡ class_numbered n };
+
+    #[tactic(auto, unfolding(crate::specs::Classes::class_numbered))]
+    fn from(number: u8) -> Class {
+        match number {
+            1 => Class::Figure,
+            2 => Class::Delay,
+            4 => Class::Label,
+            5 => Class::FromNode,
+            6 => Class::Divisor,
+            7 => Class::Month,
+            _ => Class::Party,
+        }
+    }
 }
 
 pub const PARTY: Class = Class::Party;
@@ -145,7 +163,7 @@ pub fn last_digit(text: &[u8], at: usize, class: Class) -> Option<Taking>
 }
 
 // Any field but a month. Most have one digit, so that is tried first.
-pub fn read_field(text: &[u8], at: usize, class: Class) -> Option<Taking>
+pub(crate) fn read_class(text: &[u8], at: usize, class: Class) -> Option<Taking>
     requires { at ≤ length text.now + 1 }
     ensures { TakenIs (class_of class) text.now at result }
 {
@@ -161,4 +179,12 @@ pub fn read_field(text: &[u8], at: usize, class: Class) -> Option<Taking>
         }
     }
     read_longer(text, at, class)
+}
+
+// The same, of a class or its number.
+pub fn read_field<C: Into<Class>>(text: &[u8], at: usize, class: C) -> Option<Taking>
+    requires { at ≤ length text.now + 1 }
+    ensures { (k : _) × C.converts class k × TakenIs (class_of k) text.now at result }
+{
+    read_class(text, at, class.into())
 }

@@ -1,10 +1,10 @@
 // The fields of a node as up to four numbers: a month takes two of them.
-ghost use Rattle.std.specs.Prelude.{◌≡◌, ◌∷◌, [], ◌+◌, ◌<◌, ◌≤◌, get_or, length};
+ghost use Rattle.std.specs.Prelude.{◌≡◌, ◌∷◌, [], ◌+◌, ◌<◌, ◌≤◌, get_or, length, MatchOption, None, Some};
 ghost use Rattle.language.specs.Text.Letters.{delay, divisor, figure, label, month, party};
 ghost use Rattle.fields.specs.Classes.{class_of};
 ghost use Rattle.fields.specs.Fields.{MonthIs, MonthTried, PairIs, SlotsAre, SlotsTried, classes_of_two, classes_of_three};
 
-use crate::field::{Class, Range, Taking, in_range, last_digit, one_digit, read_field};
+use crate::field::{Class, Range, Taking, in_range, last_digit, one_digit, read_class};
 use crate::numbers::{figure_at, read_number, short_number};
 use crate::settings::{quick_settings, read_setting};
 
@@ -65,7 +65,7 @@ fn read_pair(
     if let Class::Month = class {
         return read_month(text, at);
     }
-    let a = read_field(text, at, class)?;
+    let a = read_class(text, at, class)?;
     let Some(other) = second else {
         return Some(TakingTwo {
             a: a.value,
@@ -73,7 +73,7 @@ fn read_pair(
             next: a.next,
         });
     };
-    let b = read_field(text, a.next, other)?;
+    let b = read_class(text, a.next, other)?;
     Some(TakingTwo {
         a: a.value,
         b: b.value,
@@ -82,12 +82,7 @@ fn read_pair(
 }
 
 // A month and two more fields.
-pub fn after_month(
-    text: &[u8],
-    at: usize,
-    second: Option<Class>,
-    third: Option<Class>,
-) -> Option<Slots>
+fn month_first(text: &[u8], at: usize, second: Option<Class>, third: Option<Class>) -> Option<Slots>
     requires { at ≤ length text.now + 1 }
     ensures { SlotsAre (month ∷ classes_of_two second third) text.now at result }
 {
@@ -113,7 +108,7 @@ fn after_field(
     requires { at ≤ length text.now + 1 }
     ensures { SlotsAre (class_of first ∷ classes_of_two second third) text.now at result }
 {
-    let a = read_field(text, at, first)?;
+    let a = read_class(text, at, first)?;
     let two = read_pair(text, a.next, second, third)?;
     Some(Slots {
         a: a.value,
@@ -174,16 +169,16 @@ pub fn quick_divisor(text: &[u8], at: usize) -> Option<Slots>
                 next: a.end + 1,
             })
         }
-        None => read_one(text, at, Class::Divisor),
+        None => read_only(text, at, Class::Divisor),
     }
 }
 
 // The field of a node with one that is no month.
-pub fn read_one(text: &[u8], at: usize, class: Class) -> Option<Slots>
+fn read_only(text: &[u8], at: usize, class: Class) -> Option<Slots>
     requires { at ≤ length text.now + 1 }
     ensures { SlotsAre (class_of class ∷ []) text.now at result }
 {
-    let a = read_field(text, at, class)?;
+    let a = read_class(text, at, class)?;
     Some(Slots {
         a: a.value,
         b: 0,
@@ -225,7 +220,7 @@ pub fn quick_delay(text: &[u8], at: usize) -> Option<Slots>
             if text[at] == b'P' {
                 return quick_setting(text, at);
             }
-            read_one(text, at, Class::Delay)
+            read_only(text, at, Class::Delay)
         }
     }
 }
@@ -331,7 +326,7 @@ pub fn quick_transfer(text: &[u8], at: usize) -> Option<Slots>
     if let Some(s) = transfer_digits(text, at) {
         return Some(s);
     }
-    after_month(text, at, Some(Class::Party), Some(Class::Party))
+    month_first(text, at, Some(Class::Party), Some(Class::Party))
 }
 
 // The fields of any node.
@@ -355,7 +350,41 @@ pub fn read_fields(
         });
     };
     if let Class::Month = class {
-        return after_month(text, at, second, third);
+        return month_first(text, at, second, third);
     }
     after_field(text, at, class, second, third)
+}
+
+// The class of a field that may be there.
+fn named<C: Into<Class>>(class: Option<C>) -> Option<Class>
+    ensures { MatchOption class (result ≡ None) (λ c. (k : _) × C.converts c k × (result ≡ Some k)) }
+{
+    match class {
+        Some(c) => Some(c.into()),
+        None => None,
+    }
+}
+
+// The field of a node with one that is no month, of a class or its number.
+pub fn read_one<C: Into<Class>>(text: &[u8], at: usize, class: C) -> Option<Slots>
+    requires { at ≤ length text.now + 1 }
+    ensures { (k : _) × C.converts class k × SlotsAre (class_of k ∷ []) text.now at result }
+{
+    read_only(text, at, class.into())
+}
+
+// A month and two more fields, of classes or their numbers.
+pub fn after_month<C: Into<Class>, D: Into<Class>>(
+    text: &[u8],
+    at: usize,
+    second: Option<C>,
+    third: Option<D>,
+) -> Option<Slots>
+    requires { at ≤ length text.now + 1 }
+    ensures { (k : _) × (l : _)
+        × MatchOption second (k ≡ None) (λ c. (j : _) × C.converts c j × (k ≡ Some j))
+        × MatchOption third (l ≡ None) (λ d. (j : _) × D.converts d j × (l ≡ Some j))
+        × SlotsAre (month ∷ classes_of_two k l) text.now at result }
+{
+    month_first(text, at, named(second), named(third))
 }

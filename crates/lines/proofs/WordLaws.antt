@@ -1,5 +1,5 @@
 -- A line's first field, by the place of the first comma.
-use Prim.Native.Nat.{◌+◌, suc, ℕ}
+use Prim.Native.Nat.{◌+◌, ◌<◌, suc, ℕ, zero}
 use lib.Dec.{eqb}
 use lib.ListN.{length, take}
 use lib.Pointwise.{pointwise}
@@ -26,6 +26,24 @@ up_to_comma (b ∷ bs) = go (eqb b 44) (up_to_comma bs)
     go : (t : Bool) → take (position_or_len comma bs) bs ≡ up_to 44 bs → take (cond (not t) (1 + position_or_len comma bs) 0) (b ∷ bs) ≡ cond (t || t) [] (b ∷ up_to 44 bs)
     go true h = refl
     go false h = let e : 1 + position_or_len comma bs ≡ suc (position_or_len comma bs) = omega arith in rw e (ap (λ l. b ∷ l) h)
+
+-- a part of the line that is cut off behind more bytes than the word has tells as much
+pub clipped : (line word : List ℕ) (n : ℕ) → (n < length line → length word < n) → same_bytes (up_to 44 (take n line)) word ≡ same_bytes (up_to 44 line) word
+unfolding up_to
+clipped [] word zero h = refl
+clipped [] word (suc n) h = refl
+clipped (b ∷ bs) word zero h = absurd (omega (arith, h (omega arith)))
+clipped (b ∷ bs) [] (suc n) h = go (eqb b 44)
+  where
+    go : (t : Bool) → same_bytes (cond (t || t) [] (b ∷ up_to 44 (take n bs))) [] ≡ same_bytes (cond (t || t) [] (b ∷ up_to 44 bs)) []
+    go true = refl
+    go false = refl
+clipped (b ∷ bs) (w ∷ ws) (suc n) h = go (eqb b 44) (clipped bs ws n (λ k. omega (arith, h (omega (arith, k)))))
+  where
+    go : (t : Bool) → same_bytes (up_to 44 (take n bs)) ws ≡ same_bytes (up_to 44 bs) ws
+        → same_bytes (cond (t || t) [] (b ∷ up_to 44 (take n bs))) (w ∷ ws) ≡ same_bytes (cond (t || t) [] (b ∷ up_to 44 bs)) (w ∷ ws)
+    go true e = refl
+    go false e = ap (λ s. eqb b w && s) e
 
 same_pointwise : (a b : List ℕ) → pointwise eqb a b ≡ same_bytes a b
 same_pointwise [] [] = refl

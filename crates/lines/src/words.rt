@@ -10,10 +10,11 @@ fn first_comma(line: &[u8]) -> Option<usize>
     line.iter().position(|b| *b == b',')
 }
 
-// Whether the first field of a line is this word.
+// Whether the first field of a line is this word. No more is looked at than the word and the comma behind it: a line may be long.
 pub fn has_word(line: &[u8], word: &[u8]) -> bool
     ensures { result ≡ same_bytes (up_to 44 line.now) word.now }
 {
-    let end = first_comma(line).unwrap_or(line.len());
-    &line[..end] == word
+    let front = &line[..line.len().min(word.len() + 1)];
+    let end = first_comma(front).unwrap_or(front.len());
+    &front[..end] == word
 }

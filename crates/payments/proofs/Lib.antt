@@ -1,6 +1,7 @@
 -- Laws of the calls on payments.
 pub mod Admitted
 pub mod Placed
+pub mod RestPut
 pub mod RootWaits
 pub mod Shortened
 pub mod StepPlaced

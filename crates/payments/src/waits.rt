@@ -54,9 +54,11 @@ fn put_rest(text: &[u8], from: usize, out: &mut [u8], at: usize) -> usize
     requires { (from ≤ length text.now) × (at + (length text.now - from) ≤ length out.old) }
     ensures { Put out.old out.new at result (drop from text.now) }
 {
-    let end = at + (text.len() - from);
-    out[at..end].copy_from_slice(&text[from..]);
-    end
+    let count = text.len() - from;
+    for i in 0..count {
+        out[at + i] = text[from + i];
+    }
+    at + count
 }
 
 // The text of a plan whose root waits d months, with one month less, into `out`; or no byte of it where it does not fit.

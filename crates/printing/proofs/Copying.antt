@@ -6,12 +6,11 @@ use lib.ListN.{drop, get_or, length, length-drop, length-take, set, take}
 use lib.Seq.{drop_at, drop-cons, drop-drop, ext_get_or, get_or-drop, get_or-set_other, get_or-take, length-sets, length-take-le, set-set, sets, sets-eq, take-add, take-append_seam, take-take}
 use mathlib.Core.Bool.{true, true≢false}
 use mathlib.Core.List.{List, [], ◌++◌, ◌∷◌, append_assoc}
-use mathlib.Core.Path.{◌∙◌, ◌≡◌, ap, ap₂, refl, sym}
+use mathlib.Core.Path.{◌∙◌, ◌≡◌, ap, ap₂, refl, subst, sym}
 use native.Mathlib.Omega.{arith}
 use Rattle.integers.specs.Equal.{eq_z}
 use Rattle.language.specs.Text.Number.{print_nat}
-use Rattle.std.proofs.lemmas.List.{drop-take}
-use Rattle.printing.proofs.Words.{joined}
+use Rattle.printing.proofs.Words.{Spelt, spelt_more}
 use Rattle.printing.specs.Lines.{month_text, new_line, numbers_text}
 use Rattle.writer.proofs.Puts.{room_next, set_front, then}
 use Rattle.writer.specs.Put.{Put}
@@ -55,7 +54,7 @@ written_run {a} {b} {i} {j} {xs} p r =
     ∙ ap (take (length xs)) (drop_at (take i a) (xs ++ drop (i + length xs) a) i (length-take-le i a (omega (arith, r))))
     ∙ take-append_seam xs (drop (i + length xs) a)
 
--- ---- n bytes copied to a place behind them
+-- ---- n bytes copied, one after the other, to a place behind them
 
 module _ (old : List ℕ) (from to n : ℕ) (h : from + n ≤ to) (r : to + n ≤ length old) where
   abbrev pub word : List ℕ
@@ -64,20 +63,13 @@ module _ (old : List ℕ) (from to n : ℕ) (h : from + n ≤ to) (r : to + n �
   pub word_length : length word ≡ n
   word_length = length-take-le n (drop from old) (omega (arith, length-drop from old, h, r))
 
-  front_run : take n (drop from (take to old)) ≡ word
-  front_run =
-      let e : to ≡ from + (to - from) = omega (arith, h) in
-      ap (λ k. take n (drop from (take k old))) e ∙ ap (take n) (drop-take from (to - from) old) ∙ take-take n (to - from) (drop from old) (omega (arith, h))
-
-  -- the buffer is parted in front of the place
-  pub copied : {front back part : List ℕ} → front ≡ take to old → back ≡ drop to old → part ≡ take (from + n - from) (drop from front) → Put old (front ++ (part ++ drop n back)) to (to + n) word
-  copied {front} {back} {part} ef eb ep =
-      let k : from + n - from ≡ n = omega arith in
-      let w : part ≡ word = ep ∙ ap₂ (λ i l. take i (drop from l)) k ef ∙ front_run in
-      record {
-        is = rw (w, ef, eb) (rw word_length at (joined word old to (omega (arith, r, word_length))));
-        ends = omega (arith, word_length);
-      }
+  pub copied : {out : List ℕ} {i : ℕ} → Spelt word old to out i → i < n → Spelt word old to (set out (to + i) (get_or out (from + i) 0)) (i + 1)
+  copied {out} {i} s k = subst (λ b. Spelt word old to (set out (to + i) b) (i + 1)) (sym byte) (spelt_more word old to s (omega (arith, k, word_length)))
+    where
+      byte : get_or out (from + i) 0 ≡ get_or word i 0
+      byte =
+          ap (λ l. get_or l (from + i) 0) s.put.is ∙ before (take i word) old to (from + i) (omega (arith, h, k))
+          ∙ sym (get_or-take n (drop from old) i 0 k ∙ get_or-drop from old i 0)
 
 -- ---- eight bytes at once
 

@@ -58,8 +58,9 @@ fn copy_bytes(out: &mut [u8], from: usize, to: usize, n: usize) -> usize
     requires { (from + n ≤ to) × (to + n ≤ length out.old) }
     ensures { Put out.old out.new to result (take n (drop from out.old)) }
 {
-    let (front, back) = out.split_at_mut(to);
-    back[..n].copy_from_slice(&front[from..from + n]);
+    for i in 0..n {
+        out[to + i] = out[from + i];
+    }
     to + n
 }
 

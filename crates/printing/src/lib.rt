@@ -11,14 +11,15 @@ mod again;
 
 use writer::{NoRoom, digits, parts};
 
-// Writes a word.
+// Writes a word. No `copy_from_slice`: it calls memmove, and the C interface needs nothing from outside but memset.
 fn put_word(word: &[u8], out: &mut [u8], at: usize) -> usize
     requires { at + length word.now ≤ length out.old }
     ensures { Put out.old out.new at result word.now }
 {
-    let end = at + word.len();
-    out[at..end].copy_from_slice(word);
-    end
+    for i in 0..word.len() {
+        out[at + i] = word[i];
+    }
+    at + word.len()
 }
 
 // The bytes of a month's line.

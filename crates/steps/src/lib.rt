@@ -17,6 +17,7 @@ ghost use Rattle.nodes.specs.Found.{plan_at};
 ghost use Rattle.nodes.specs.Stands.{PlanStands};
 ghost use Rattle.nodes.specs.Table.{nat_of, slot_at};
 ghost use Rattle.pays.specs.FinePlan.{FinePlan};
+ghost use Rattle.pays.specs.Parties.{PairIn};
 ghost use Rattle.places.specs.Place.{SpanIn};
 ghost use Rattle.steps.specs.Ready.{Ready};
 ghost use Rattle.steps.specs.Waits.{Waits};
@@ -64,7 +65,8 @@ pub fn step_plan(
     left: usize,
 ) -> Today
     requires { Ready day.now.span.h day.now.span.f day.now.bounds.now day.now.values.now (nat_of day.now.today.0) nodes.old at to left × (count ≤ at)
-        × PlanStands left nodes.old at × FinePlan day.now.values.now (sign_of day.now.pair.p day.now.pair.q) (plan_at nat_of left nodes.old at) (nat_of day.now.today.0) (nat_of day.now.today.0) }
+        × PlanStands left nodes.old at × FinePlan day.now.values.now (sign_of day.now.pair.p day.now.pair.q) (plan_at nat_of left nodes.old at) (nat_of day.now.today.0) (nat_of day.now.today.0)
+        × PairIn day.now.pair.p day.now.pair.q }
     ensures { (result.pence.0 ≡ pays (flat day.now.values.now) (sign_of day.now.pair.p day.now.pair.q) (plan_at nat_of left nodes.old at) (nat_of day.now.today.0) (nat_of day.now.today.0))
         × (result.next + at ≤ count + to) × ((y : Ready day.now.span.h day.now.span.f day.now.bounds.now day.now.values.now (nat_of day.now.today.0) nodes.old at to left)
         → Appended nodes.old nodes.new count result.next (plain_rows plan_form (plan_trees (closed (step (lookup_of (read_table day.now.span.h day.now.span.f day.now.bounds.now day.now.values.now)) (nat_of day.now.today.0) y.plan)) end))) }

@@ -6,7 +6,6 @@ ghost use Rattle.integers.specs.Bounded.{Small};
 ghost use Rattle.language.specs.Rules.Table.{value_at};
 ghost use Rattle.nodes.specs.Pass.{row_from};
 ghost use Rattle.nodes.specs.Table.{RowIn, nat_of, slot_at};
-ghost use Rattle.pays.specs.Parties.{PairIn};
 ghost use Rattle.places.specs.Place.{SpanIn};
 ghost use Rattle.steps.specs.Offsets.{restored_row, stepped_row};
 ghost use Rattle.tables.specs.Lookup.{Kept, read_table};
@@ -85,7 +84,7 @@ fn value_in(day: &Stepped, label: usize, month: Month) -> Pence
     value
 }
 
-fn restore_row(nodes: &mut [i64], span: Span, count: usize, at: usize) -> usize
+pub fn restore_row(nodes: &mut [i64], span: Span, count: usize, at: usize) -> usize
     requires { SpanIn span.h span.f × RowIn nodes.old at × (count ≤ at) }
     ensures { Appended nodes.old nodes.new count result (restored_row span.h span.f (row_from (at * 5) nodes.old)) }
 {
@@ -96,7 +95,7 @@ fn restore_row(nodes: &mut [i64], span: Span, count: usize, at: usize) -> usize
     copies::copy_row(nodes, count, at)
 }
 
-fn step_row(nodes: &mut [i64], day: &Stepped, count: usize, at: usize) -> usize
+pub fn step_row(nodes: &mut [i64], day: &Stepped, count: usize, at: usize) -> usize
     requires { RowIn nodes.old at × (count ≤ at) }
     ensures { Appended nodes.old nodes.new count result (stepped_row (read_table day.now.span.h day.now.span.f day.now.bounds.now day.now.values.now) (nat_of day.now.today.0) (row_from (at * 5) nodes.old)) }
 {
@@ -139,7 +138,6 @@ pub struct Stepped<'a> {
     pub ghost placed: { SpanIn span.h span.f },
     pub ghost kept: { Kept span.h span.f bounds.now values.now },
     pub ghost month: { MonthIn today.0 },
-    pub ghost parties: { PairIn pair.p pair.q },
 }
 
 impl<'a> Change for Stepped<'a> {

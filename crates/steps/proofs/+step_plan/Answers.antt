@@ -31,7 +31,7 @@ put_letter-next-requires t c =
 pub penny-pence-requires : goal.penny-pence-requires
 penny-pence-requires t c =
     let y = c.requires.0 in
-    (parts.row_in_lem y, c.args.day.now.parties)
+    (parts.row_in_lem y, c.requires.4)
 
 pub put_letter-next-requires-in-Transfer : goal.put_letter-next-requires-in-Transfer
 put_letter-next-requires-in-Transfer t c =
@@ -91,7 +91,7 @@ step_plan-x-requires t c =
     let z = parts.scale_ready y i c.link-second.ensures in
     let k = behind_kept c.requires.1 refl u (copied_few o.0 v) v.added in
     let w = walks_kept k z (sign_of c.args.day.now.pair.p c.args.day.now.pair.q) (paying.scale_walks n c.link-second.ensures) in
-    (omega (arith, parts.some_left y), (ready_kept k z, below_ends c.requires.1 refl u (copied_few o.0 v) v.added, w.0, w.1))
+    (omega (arith, parts.some_left y), (ready_kept k z, below_ends c.requires.1 refl u (copied_few o.0 v) v.added, w.0, w.1, c.requires.4))
 
 pub times-requires : goal.times-requires
 times-requires t c =
@@ -123,7 +123,7 @@ step_plan-requires t c =
     let i = parts.by_letter y c.plan_kind-letter.ensures c.in-Later.is in
     let n = node t (goal.at.step_plan-requires t c).After-plan_kind-letter c.in-Later.is in
     let w = (paying.later_walks n (due.later_now n c.args.day.now.month refl (parts.none_left c.delay-d.ensures (sym c.due.ensures ∙ c.if-due.true)))).1 in
-    (omega (arith, parts.some_left y), (parts.later_ready y i c.delay-d.ensures (sym c.due.ensures ∙ c.if-due.true), omega (arith, c.requires.1, (parts.inside y).0), w.0, w.1))
+    (omega (arith, parts.some_left y), (parts.later_ready y i c.delay-d.ensures (sym c.due.ensures ∙ c.if-due.true), omega (arith, c.requires.1, (parts.inside y).0), w.0, w.1, c.requires.4))
 
 pub keep_waiting-requires : goal.keep_waiting-requires
 keep_waiting-requires t c =
@@ -159,7 +159,7 @@ step_plan-x-requires-in-Both t c =
     let z = parts.first_ready y i c.link-second-in-Both.ensures in
     let k = below_kept c.requires.1 refl u in
     let w = walks_kept k z (sign_of c.args.day.now.pair.p c.args.day.now.pair.q) (paying.first_walks (node t (goal.at.step_plan-x-requires-in-Both t c).After-plan_kind-letter c.in-Both.is)) in
-    (omega (arith, parts.some_left y), (ready_kept k z, omega (arith, c.requires.1, u.ends), w.0, w.1))
+    (omega (arith, parts.some_left y), (ready_kept k z, omega (arith, c.requires.1, u.ends), w.0, w.1, c.requires.4))
 
 pub overflow_sub-left-in-Both-2 : goal.overflow_sub-left-in-Both-2
 overflow_sub-left-in-Both-2 t c =
@@ -176,7 +176,7 @@ step_plan-y-requires t c =
     let z = parts.second_ready y i c.link-second-in-Both.ensures in
     let k = behind_kept c.requires.1 refl u v.1 f in
     let w = walks_kept k z (sign_of c.args.day.now.pair.p c.args.day.now.pair.q) (paying.second_walks (node t (goal.at.step_plan-y-requires t c).After-plan_kind-letter c.in-Both.is) c.link-second-in-Both.ensures) in
-    (omega (arith, parts.some_left y), (ready_kept k z, below_ends c.requires.1 refl u v.1 f, w.0, w.1))
+    (omega (arith, parts.some_left y), (ready_kept k z, below_ends c.requires.1 refl u v.1 f, w.0, w.1, c.requires.4))
 
 pub plus-requires : goal.plus-requires
 plus-requires t c =
@@ -229,7 +229,7 @@ step_plan-requires-then-test t c =
     let n = node t (goal.at.step_plan-requires-then-test t c).After-plan_kind-letter c.in-Within.is in
     let o = parts.within_order y i c.link-second-in-Within.ensures c.link-third.ensures in
     let w = (paying.held_walks n refl _ (due.held_now n _ c.args.day.now.month refl (sym c.test.ensures ∙ c.if-test.true)) c.link-second-in-Within.ensures).1 in
-    (omega (arith, parts.some_left y), (parts.held_ready y i c.link-second-in-Within.ensures c.link-third.ensures, omega (arith, o.0, o.1, o.2, c.requires.1), w.0, w.1))
+    (omega (arith, parts.some_left y), (parts.held_ready y i c.link-second-in-Within.ensures c.link-third.ensures, omega (arith, o.0, o.1, o.2, c.requires.1), w.0, w.1, c.requires.4))
 
 pub delay-wait-requires : goal.delay-wait-requires
 delay-wait-requires t c =
@@ -247,7 +247,7 @@ step_plan-requires-then-due-2 t c =
     let n = node t (goal.at.step_plan-requires-then-due-2 t c).After-plan_kind-letter c.in-Within.is in
     let o = parts.within_order y i c.link-second-in-Within.ensures c.link-third.ensures in
     let w = (paying.missed_walks n refl _ (due.missed_now n _ c.args.day.now.month refl (sym c.test.ensures ∙ c.if-test.false) (parts.none_left c.delay-wait.ensures (sym c.due-else-test.ensures ∙ c.if-due-2.true))) c.link-third.ensures).1 in
-    (omega (arith, parts.some_left y), (parts.missed_ready y i c.link-second-in-Within.ensures c.link-third.ensures c.delay-wait.ensures (sym c.due-else-test.ensures ∙ c.if-due-2.true), omega (arith, o.0, o.1, o.2, c.requires.1), w.0, w.1))
+    (omega (arith, parts.some_left y), (parts.missed_ready y i c.link-second-in-Within.ensures c.link-third.ensures c.delay-wait.ensures (sym c.due-else-test.ensures ∙ c.if-due-2.true), omega (arith, o.0, o.1, o.2, c.requires.1), w.0, w.1, c.requires.4))
 
 pub keep_waiting-requires-else-due-2 : goal.keep_waiting-requires-else-due-2
 keep_waiting-requires-else-due-2 t c =

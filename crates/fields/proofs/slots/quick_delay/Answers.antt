@@ -16,4 +16,4 @@ returns-in-Some c =
 
 pub returns-else-text-at-eq80 : goal.returns-else-text-at-eq80
 unfolding class_of
-returns-else-text-at-eq80 c = are_tried _ _ _ c.read_one.result c.read_one.ensures
+returns-else-text-at-eq80 c = are_tried _ _ _ c.read_only.result c.read_only.ensures

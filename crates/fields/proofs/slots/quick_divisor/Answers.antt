@@ -28,4 +28,4 @@ returns-else-a-lt1 c =
 
 pub returns-in-None : goal.returns-in-None
 unfolding class_of
-returns-in-None c = are_tried _ _ _ c.read_one.result c.read_one.ensures
+returns-in-None c = are_tried _ _ _ c.read_only.result c.read_only.ensures

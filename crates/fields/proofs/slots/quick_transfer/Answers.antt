@@ -5,4 +5,4 @@ use Rattle.fields.proofs.slots.quick_transfer.Goals as goal
 
 pub returns : goal.returns
 unfolding classes_of_two class_of
-returns c = are_tried _ _ _ c.after_month.result c.after_month.ensures
+returns c = are_tried _ _ _ c.month_first.result c.month_first.ensures

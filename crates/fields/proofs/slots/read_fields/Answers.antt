@@ -15,8 +15,8 @@ returns-in_default c =
 pub returns-in-Month : goal.returns-in-Month
 returns-in-Month c =
     let a = c.args in
-    subst (λ (ks : List Class). SlotsAre ks a.text.now a.at c.after_month.result)
-    (sym (ap (λ (f : Option coded.Class). classes_of_three f a.second a.third) c.in-Some.is ∙ three_month a.text.now a.at c.in-Some.class a.second a.third c.in-Month.is)) c.after_month.ensures
+    subst (λ (ks : List Class). SlotsAre ks a.text.now a.at c.month_first.result)
+    (sym (ap (λ (f : Option coded.Class). classes_of_three f a.second a.third) c.in-Some.is ∙ three_month a.text.now a.at c.in-Some.class a.second a.third c.in-Month.is)) c.month_first.ensures
 
 pub returns : goal.returns
 returns c =

@@ -9,7 +9,7 @@ use Rattle.fields.specs.declared.field.Range.{Range}
 use Rattle.fields.proofs.ClassLaws.{limited}
 use Rattle.fields.proofs.FieldLaws.{digit_taken}
 use Rattle.fields.proofs.Positions.{up_more}
-use Rattle.fields.proofs.field.read_field.Goals as goal
+use Rattle.fields.proofs.field.read_class.Goals as goal
 
 pub digit_in-requires : goal.digit_in-requires
 digit_in-requires c = (

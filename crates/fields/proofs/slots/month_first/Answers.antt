@@ -3,7 +3,7 @@ use mir.ValLaws.{to_z-of_z}
 use native.Mathlib.Omega.{arith}
 use Rattle.language.specs.Text.Letters.{month}
 use Rattle.fields.proofs.FieldLaws.{bad_first, bad_later, four_month}
-use Rattle.fields.proofs.slots.after_month.Goals as goal
+use Rattle.fields.proofs.slots.month_first.Goals as goal
 
 pub returns-in_err-two : goal.returns-in_err-two
 returns-in_err-two c = rw c.from_residual.ensures (bad_first c.args.text.now c.args.at month _ c.in_err-two.ensures)
